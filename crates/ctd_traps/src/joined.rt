@@ -78,11 +78,7 @@ fn push_state(more: JoinedState, states: &mut Vec<JoinedState>) -> Result<(), Al
 }
 
 /// Adds a joined state. One of the same place and moment is joined with it.
-fn add_state(
-    context: Context,
-    more: JoinedState,
-    states: &mut Vec<JoinedState>,
-) -> Result<(), Stop>
+fn add_state(context: Context, more: JoinedState, states: &mut Vec<JoinedState>) -> Result<(), Stop>
     ensures others { OnOk result (AreWithin context.entry states.old.items states.new.items) }
     ensures added { OnOk result (IsAdded context.entry more states.new.items) }
 {

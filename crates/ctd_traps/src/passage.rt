@@ -12,7 +12,9 @@ ghost use Rattle.ctd_traps.specs.inner.Passages.{IsJoined, IsOneOf, IsSameOrNone
 ghost use Rattle.ctd_traps.specs.inner.Walk.{BeginsLater, IsGuard};
 
 use crate::joined::Moment;
-use crate::note::{EventKind, Noted, note_answers, note_begin, note_event, note_faults, note_states};
+use crate::note::{
+    EventKind, Noted, note_answers, note_begin, note_event, note_faults, note_states,
+};
 use crate::start::{Turns, may_start};
 use crate::turn::{LoopEntry, LoopStart, Phase, enter};
 use ctd_partitions::{State, are_within, join_partitions};

@@ -14,9 +14,9 @@ ghost use Rattle.ctd_states.specs.calls.States.{MayBe, PinsStand, pins_in, named
 ghost use Rattle.std.specs.Borrow.{Bor};
 
 use crate::budget::whole_budget;
-use crate::names::{Mentioned, mentioned_in};
 use crate::joined::Moment;
 use crate::known::{END, Knowledge, knowledge_of};
+use crate::names::{Mentioned, mentioned_in};
 use crate::never::absent_in;
 use crate::note::{Note, Noted, note_states, nothing_noted};
 use crate::trap::{Trap, in_text_order};

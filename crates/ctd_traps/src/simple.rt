@@ -26,7 +26,13 @@ pub(crate) fn take(
 {
     let acted = transfer_each(command, context, states)?;
     note_faults(command.place, acted.faults, noted)?;
-    note_run(command.place, context, states, acted.after.as_slice(), noted)?;
+    note_run(
+        command.place,
+        context,
+        states,
+        acted.after.as_slice(),
+        noted,
+    )?;
     Ok(acted.after)
 }
 

@@ -13,7 +13,7 @@ returns c =
     let walked = c.walk.new.noted in
     let noted = c.note_states.new.noted in
     let each = events_noted tree presets g c.in_ok-first.first.items c.in_ok-last.last.items walked noted stand c.in_ok-first.ensures c.in_ok-last.ensures.keeps c.in_ok-note_states.ensures.more
-        (subst (FoundIn g noted program_end moments.Done) c.as_slice-2.ensures.value c.in_ok-note_states.ensures.found) in
+    (subst (FoundIn g noted program_end moments.Done) c.as_slice-2.ensures.value c.in_ok-note_states.ensures.found) in
     let knowledge = c.in_ok-knowledge.knowledge in
     record {
       noted = record { context = g; each = each };
