@@ -214,7 +214,7 @@ pub fn lint<P: Source, O: Sink, E: Sink>(
             }
         },
     };
-    let trap_list = traps(alloc, plan.commands(), &setup.presets)?;
+    let trap_list = traps(alloc, plan.commands(), &setup.presets, false)?;
     let found = findings(alloc, plan.commands(), &setup.presets, &trap_list)?;
     write_program(alloc, setup, file, found.as_slice(), &trap_list, out, err)
 }

@@ -18,3 +18,6 @@ pub mod Framing
 pub mod Holding
 pub mod Looping
 pub mod Unrolling
+pub mod Knowing
+pub mod Ending
+pub mod Joining

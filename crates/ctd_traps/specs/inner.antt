@@ -1,6 +1,8 @@
 -- What only the proofs of this crate use.
 pub mod Holds
+pub mod Joined
 pub mod Noted
+pub mod Knowing
 pub mod Absent
 pub mod Triples
 pub mod PostFixpoint

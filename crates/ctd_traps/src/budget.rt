@@ -1,4 +1,4 @@
-//! What a walk may cost.
+//! What a walk may cost, and what it keeps.
 
 use ctd_partitions::State;
 use ctd_program::{Action, Command};
@@ -22,27 +22,29 @@ const CANDIDATE: u64 = 48;
 /// One way through a loop, where there are several, has this part of the steps that are left.
 const PART: u64 = 4;
 
-/// What the steps of a walk may still cost; from how much on other ways through a loop are tried; and whether the walk is in a loop that has a
-/// candidate for which the loops in it have candidates too.
+/// What the steps of a walk may still cost; from how much on other ways through a loop are tried; whether the walk is in a loop that has a
+/// candidate for which the loops in it have candidates too; and whether it keeps the states in which it comes to places.
 #[derive(Drop)]
 pub(crate) struct Budget {
     steps: u64,
     reserve: u64,
     pub(crate) is_inner: bool,
+    pub(crate) with_states: bool,
 }
 
 /// A budget of which one half is for other ways through loops.
-fn budget_of(steps: u64) -> Budget {
+fn budget_of(steps: u64, with_states: bool) -> Budget {
     Budget {
         steps,
         reserve: steps / 2,
         is_inner: false,
+        with_states,
     }
 }
 
 /// The budget of a walk.
-pub(crate) fn whole_budget() -> Budget {
-    budget_of(STEPS)
+pub(crate) fn whole_budget(with_states: bool) -> Budget {
+    budget_of(STEPS, with_states)
 }
 
 /// Whether other ways through a loop may be tried.
@@ -52,7 +54,7 @@ pub(crate) fn may_try(budget: &Budget) -> bool {
 
 /// A part of the budget, for one way through a loop.
 pub(crate) fn part_of(budget: &Budget) -> Budget {
-    budget_of(budget.steps / PART)
+    budget_of(budget.steps / PART, budget.with_states)
 }
 
 /// Pays what was paid of its part.

@@ -40,7 +40,7 @@ pub(crate) fn walk(
     noted: &mut Noted,
     budget: &mut Budget,
 ) -> Result<Vec<State>, Stop>
-    ensures more { OnOk result (IsPart noted.old noted.new) }
+    ensures more { OnOk result (IsPart context.entry noted.old noted.new) }
     ensures keeps { IfOk result (λ after. WalkKeeps context.entry states.items after.items noted.new (command_trees commands.now)) }
 {
     let mut after = states;
@@ -59,7 +59,7 @@ fn walk_block(
     noted: &mut Noted,
     budget: &mut Budget,
 ) -> Result<Vec<State>, Stop>
-    ensures more { OnOk result (IsPart noted.old noted.new) }
+    ensures more { OnOk result (IsPart context.entry noted.old noted.new) }
     ensures keeps { IfOk result (λ after. WalkKeeps context.entry states.items after.items noted.new (command_list block.now)) }
 {
     walk(block.as_slice(), context, states, noted, budget)
@@ -74,7 +74,7 @@ fn step(
     noted: &mut Noted,
     budget: &mut Budget,
 ) -> Result<Vec<State>, Stop>
-    ensures more { OnOk result (IsPart noted.old noted.new) }
+    ensures more { OnOk result (IsPart context.entry noted.old noted.new) }
     ensures keeps { IfOk result (λ after. StepKeeps context.entry states.now after.items noted.new (command_tree command.now)) }
 {
     pay(budget, command, states)?;
@@ -104,7 +104,7 @@ fn choose(
     noted: &mut Noted,
     budget: &mut Budget,
 ) -> Result<Vec<State>, Stop>
-    ensures more { OnOk result (IsPart noted.old noted.new) }
+    ensures more { OnOk result (IsPart context.entry noted.old noted.new) }
     ensures keeps { IfOk result (λ after. StepKeeps context.entry states.now after.items noted.new (choice_at place choice.now)) }
 {
     let Choice {
@@ -127,7 +127,7 @@ fn separate(
     noted: &mut Noted,
     budget: &mut Budget,
 ) -> Result<Vec<State>, Stop>
-    ensures more { OnOk result (IsPart noted.old noted.new) }
+    ensures more { OnOk result (IsPart context.entry noted.old noted.new) }
     ensures keeps { IfOk result (λ after. SeparatorKeeps context.entry states.items after.items noted.new (boxed_separator between.now)) }
 {
     match between {
@@ -147,7 +147,7 @@ fn go_round(
     noted: &mut Noted,
     budget: &mut Budget,
 ) -> Result<Round, Stop>
-    ensures more { OnOk result (IsPart noted.old noted.new) }
+    ensures more { OnOk result (IsPart context.entry noted.old noted.new) }
     ensures keeps { IfOk result (λ r. RoundKeeps context.entry candidate.now begun.now.counting begun.now.first.inside.items begun.now.first.outside.items begun.now.first.faults r.outside.items r.end.items noted.new place repeated.now) }
 {
     let Loop { between, body, .. } = repeated;
@@ -172,7 +172,7 @@ fn separate_before(
     noted: &mut Noted,
     budget: &mut Budget,
 ) -> Result<Vec<State>, Stop>
-    ensures more { OnOk result (IsPart noted.old noted.new) }
+    ensures more { OnOk result (IsPart context.entry noted.old noted.new) }
     ensures keeps { IfOk result (λ after. SeparatesAt context.entry states.items after.items noted.new k (boxed_separator between.now)) }
 {
     if k == 0 {
@@ -193,7 +193,7 @@ fn take_turn(
     noted: &mut Noted,
     budget: &mut Budget,
 ) -> Result<Round, Stop>
-    ensures more { OnOk result (IsPart noted.old noted.new) }
+    ensures more { OnOk result (IsPart context.entry noted.old noted.new) }
     ensures keeps { IfOk result (λ r. TurnKeeps context.entry states.now counting.now r.outside.items r.end.items noted.new place repeated.now k) }
 {
     let Loop { between, body, .. } = repeated;
@@ -219,7 +219,7 @@ fn unroll(
 ) -> Result<Option<Passage>, Stop>
     ensures { IfOk result (λ answer. IfSome answer (λ p. Passes context.entry states.now counting.now place repeated.now p)) }
 {
-    let mut inside = nothing_noted(context.alloc);
+    let mut inside = nothing_noted(context.alloc, budget.with_states);
     note_faults(place, counting.turns.faults, &mut inside)?;
     let facts = facts_allowed(states);
     let mut before = join_partitions(context, Vec::new(context.alloc), states)?;
@@ -262,7 +262,7 @@ fn search(
     let mut candidate = Vec::new(context.alloc);
     let mut is_narrowed = false;
     for round in 0..ROUNDS {
-        let mut inside = nothing_noted(context.alloc);
+        let mut inside = nothing_noted(context.alloc, budget.with_states);
         let passed = go_round(
             repeated,
             place,
@@ -395,12 +395,19 @@ fn repeat(
     noted: &mut Noted,
     budget: &mut Budget,
 ) -> Result<Vec<State>, Stop>
-    ensures more { OnOk result (IsPart noted.old noted.new) }
+    ensures more { OnOk result (IsPart context.entry noted.old noted.new) }
     ensures keeps { IfOk result (λ after. StepKeeps context.entry states.now after.items noted.new (loop_at place repeated.now)) }
 {
     let begun = begin(repeated, context, states)?;
-    note_start(&repeated.guard, place, &begun.counting.turns, states, noted)?;
+    note_start(
+        &repeated.guard,
+        place,
+        context,
+        &begun.counting.turns,
+        states,
+        noted,
+    )?;
     let Passage { after, inside } = pass(repeated, place, context, &begun, states, budget)?;
-    note_all(inside, noted)?;
+    note_all(context, inside, noted)?;
     Ok(after)
 }

@@ -5,16 +5,18 @@ use Rattle.ctd_traps.proofs.note.note_all.Goals as goal
 
 pub returns : goal.returns
 returns c =
-    let more : Noted = c.args.more in
+    let g = c.args.context in
+    let part : Noted = c.args.part in
     let old : Noted = c.args.noted.now in
-    let new : Noted = record { traps = c.extend_from_slice.new.self; events = c.extend_from_slice-2.new.self } in
+    let new : Noted = record { traps = c.extend_from_slice.new.self; events = c.extend_from_slice-2.new.self; joined = c.add_part.new.joined } in
     let traps = c.as_slice.result.now in
     let events = c.as_slice-2.result.now in
     let found = c.in_ok-extend_from_slice.ensures.items in
     let happened = c.in_ok-extend_from_slice-2.ensures.items in
     record {
-      more = part_of old new (part_left old.traps.items traps new.traps.items found) (events_left old.events.items events new.events.items happened);
-      all = part_of more new
+      more = part_of g old new (part_left old.traps.items traps new.traps.items found) (events_left old.events.items events new.events.items happened) c.in_ok-add_part.ensures.others;
+      all = part_of g part new
           (λ t has. part_right old.traps.items traps new.traps.items found t (subst (λ l. Contains (faults_of l) t) (sym c.as_slice.ensures.value) has))
-          (λ e has. events_right old.events.items events new.events.items happened e (subst (λ l. Contains (events_of l) e) (sym c.as_slice-2.ensures.value) has));
+          (λ e has. events_right old.events.items events new.events.items happened e (subst (λ l. Contains (events_of l) e) (sym c.as_slice-2.ensures.value) has))
+          c.in_ok-add_part.ensures.added;
     }

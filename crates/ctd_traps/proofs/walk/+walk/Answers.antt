@@ -1,8 +1,8 @@
-use Rattle.ctd_traps.proofs.Common.{AbstractState, AreBranches, Asks, Command, IfOk, IfSome, IsJoined, IsPart, PartitionIsWithin, Passage, Passes, PassesOnceBegun, RoundKeeps, SeparatesAt, SeparatorKeeps, StepKeeps, Test, TurnKeeps, Vec, begins, boxed_separator, choice_at}
+use Rattle.ctd_traps.proofs.Common.{AbstractState, AreBranches, Asks, Command, IfOk, IfSome, IsJoined, IsPart, PartitionIsWithin, Passage, Passes, PassesOnceBegun, RoundKeeps, SeparatesAt, SeparatorKeeps, StepKeeps, Test, TurnKeeps, Vec, boxed_separator, choice_at}
 use Rattle.ctd_traps.proofs.Common.{arith, command_list, command_tree, if_ok_more, list_commands, loop_at, nat_tests, out-Choice, out-Loop, subst, sym, test_tree}
 use Rattle.ctd_program.specs.Tree
 use Rattle.ctd_traps.specs.calls.Events.{goes_on}
-use Rattle.ctd_traps.proofs.Noting.{faults_more, noted_more, part_trans}
+use Rattle.ctd_traps.proofs.Noting.{begun_more, faults_more, noted_more, part_trans}
 use Rattle.ctd_traps.proofs.Walking.{between_keeps, choice_steps, separator_more}
 use Rattle.ctd_traps.proofs.Steps.{begins_more, begun_passes, choice_step, loop_step, one_passes, passed_keeps, same_or_none, search_passes, walk_done, walk_step}
 use Rattle.ctd_traps.proofs.Unrolling.{begins_at_more, nothing_left, separates_later, separates_more, unroll_ends, unroll_goes_on, unroll_starts}
@@ -10,7 +10,7 @@ use Rattle.ctd_traps.proofs.walk.+walk.Goals as goal
 
 pub walk-loop-command-preserved : goal.walk-loop-command-preserved
 walk-loop-command-preserved t c = record {
-  more = part_trans c.args.noted.now c.loop-command.noted c.step.new.noted c.loop-command.invariant.more c.in_ok-after.ensures.more;
+  more = part_trans c.args.context c.args.noted.now c.loop-command.noted c.step.new.noted c.loop-command.invariant.more c.in_ok-after.ensures.more;
   leads = walk_step c.args.context c.args.states.items c.loop-command.after.items c.as_slice.result.now c.in_ok-after.after.items c.loop-command.noted c.step.new.noted c.args.commands.now c.loop-command.command-index c.command-item.result
       c.as_slice.ensures.value c.loop-command-test.true c.command-item.is c.in_ok-after.ensures.more c.in_ok-after.ensures.keeps c.loop-command.invariant.leads;
 }
@@ -64,7 +64,7 @@ go_round-returns-clause-keeps t c =
     let second = c.separate.new.noted in
     let third = c.walk_block.new.noted in
     let part_two = c.in_ok-end.ensures.more in
-    let part_one = part_trans reported second third c.in_ok-separated.ensures.more part_two in
+    let part_one = part_trans g reported second third c.in_ok-separated.ensures.more part_two in
     record {
       later_inside = later.inside.items;
       later = later.faults;
@@ -78,7 +78,7 @@ go_round-returns-clause-keeps t c =
 pub choose-returns-clause-more : goal.choose-returns-clause-more
 choose-returns-clause-more t c =
     let new = c.walk_block-2.new.noted in
-    if_ok_more (λ (v : Vec AbstractState). AreBranches c.args.context c.in_ok-yes.yes.items c.in_ok-no.no.items v.items) (λ (v : Vec AbstractState). IsPart c.args.noted.now new) c.join_branches.result
+    if_ok_more (λ (v : Vec AbstractState). AreBranches c.args.context c.in_ok-yes.yes.items c.in_ok-no.no.items v.items) (λ (v : Vec AbstractState). IsPart c.args.context c.args.noted.now new) c.join_branches.result
     (λ v so x e is. c.in_ok-no.ensures.more x e (c.in_ok-yes.ensures.more x e (c.in_ok-asked.ensures.more x e is))) c.join_branches.ensures
 
 pub choose-returns-clause-keeps : goal.choose-returns-clause-keeps
@@ -96,7 +96,7 @@ choose-returns-clause-keeps t c =
     let first = c.walk_block.new.noted in
     let second = c.walk_block-2.new.noted in
     let part_first = c.in_ok-no.ensures.more in
-    let part_reported = part_trans reported first second c.in_ok-yes.ensures.more part_first in
+    let part_reported = part_trans g reported first second c.in_ok-yes.ensures.more part_first in
     if_ok_more (λ (v : Vec AbstractState). AreBranches g yes no v.items) (λ (v : Vec AbstractState). StepKeeps g states v.items second (choice_at place ch)) c.join_branches.result
     (λ v so. choice_steps g states if_true if_false yes no v.items asked.faults place (test_tree (out-Choice ch).condition.value) (command_list (out-Choice ch).then_do) (command_list (out-Choice ch).else_do) reported first second
     (subst (λ u. Asks g states if_true if_false (test_tree u) asked.faults reported place) c.deref.ensures c.in_ok-asked.ensures.asks)
@@ -144,7 +144,7 @@ take_turn-returns-clause-keeps t c =
     let second = c.separate_before.new.noted in
     let third = c.walk_block.new.noted in
     let part_two = c.in_ok-end.ensures.more in
-    let part_one = part_trans first second third c.in_ok-before.ensures.more part_two in
+    let part_one = part_trans g first second third c.in_ok-before.ensures.more part_two in
     record {
       inside = begun.inside.items;
       before = before;
@@ -184,7 +184,7 @@ unroll-loop-k-preserved t c =
     let wider = c.in_ok-after.after.items in
     let part = c.in_ok-turn.ensures.more in
     record {
-      start = faults_more old new place counting.turns.faults part c.loop-k.invariant.start;
+      start = faults_more g old new place counting.turns.faults part c.loop-k.invariant.start;
       leads = unroll_goes_on g c.args.states.now c.loop-k.before.items c.loop-k.after.items outside end wider old new place l counting k
           (subst (λ b. TurnKeeps g b counting outside end new place l k) c.as_slice-in-loop-k.ensures.value c.in_ok-turn.ensures.keeps) part
           c.in_ok-after.ensures.first (subst (λ o. PartitionIsWithin g o wider) c.as_slice-in-loop-k-2.ensures.value c.in_ok-after.ensures.second) c.loop-k.invariant.leads;
@@ -225,7 +225,7 @@ pub try_inner-returns : goal.try_inner-returns
 try_inner-returns t c = same_or_none c.search-found.result c.none_if_given_up.result (λ (p : Passage). PassesOnceBegun c.args.context c.args.begun.now c.args.place c.args.repeated.now p) c.none_if_given_up.ensures c.search-found.ensures
 
 pub repeat-returns-clause-more : goal.repeat-returns-clause-more
-repeat-returns-clause-more t c = part_trans c.args.noted.now c.note_start.new.noted c.note_all.new.noted c.in_ok-note_start.ensures.more c.in_ok-note_all.ensures.more
+repeat-returns-clause-more t c = part_trans c.args.context c.args.noted.now c.note_start.new.noted c.note_all.new.noted c.in_ok-note_start.ensures.more c.in_ok-note_all.ensures.more
 
 pub repeat-returns-clause-keeps : goal.repeat-returns-clause-keeps
 repeat-returns-clause-keeps t c =
@@ -237,7 +237,7 @@ repeat-returns-clause-keeps t c =
     let part = c.in_ok-note_all.ensures.more in
     let starts = c.in_ok-begun.ensures in
     passed_keeps g c.args.states.now begun c.args.place c.args.repeated.now c.in_ok-after.field-0 new starts (c.in_ok-after.ensures starts) c.in_ok-note_all.ensures.all
-    (noted_more g started new c.args.place begins c.args.states.now part (start.begun g)) (λ h by is. noted_more g started new c.args.place goes_on c.args.states.now part (start.gone g h by is))
+    (begun_more g started new c.args.place c.args.states.now part start.begun) (λ h by is. noted_more g started new c.args.place goes_on c.args.states.now part (start.gone g h by is))
 
 pub pass-returns-in-Some : goal.pass-returns-in-Some
 pass-returns-in-Some t c = λ starts. subst (λ o. IfSome o (λ (p : Passage). Passes c.args.context c.args.states.now c.args.begun.now.counting c.args.place c.args.repeated.now p)) c.in-Some.is c.in_ok-passage.ensures

@@ -5,7 +5,7 @@ use Rattle.ctd_traps.proofs.walk.+walk.Given as goal
 
 abbrev pub invariant-walk-loop-command : goal.invariant-walk-loop-command
 invariant-walk-loop-command l = record {
-  more : IsPart l.initial.noted l.noted;
+  more : IsPart l.context l.initial.noted l.noted;
   leads : WalkLeads l.context l.initial.after.items l.after.items l.noted (command_trees (drop l.command-index l.commands)) (command_trees l.commands);
 }
 
