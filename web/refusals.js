@@ -76,7 +76,7 @@ function patternFault(bytes, token) {
 }
 
 // What is wrong with a text of presets; an empty text where nothing is.
-function wordsOfPresets(presets) {
+export function wordsOfPresets(presets) {
   const text = textOf(new TextEncoder().encode(presets));
   const tokens = [...tokensOf(text)];
   const behind = (told, offset) => {

@@ -2,7 +2,7 @@
 import { Checker, Linter } from "./checker.js";
 import { excerpt, placesIn } from "./message.js";
 import { offsetAt, textOf } from "./program.js";
-import { wordsOfRefusal } from "./refusals.js";
+import { wordsOfPresets, wordsOfRefusal } from "./refusals.js";
 import { valuesAt } from "./values.js";
 
 const DEFINE = "--define=";
@@ -49,11 +49,12 @@ async function lint({ module, options, program }) {
   const text = await load(linter, program);
   const { findings, remarks } = linter.findings(options, text);
   const refusal = findings.find(({ rank }) => rank === "error");
-  const words = refusal && wordsOfRefusal(refusal.text, linter.bytesAt(text.start, text.size), refusal.place, presetsIn(options));
-  if (!words) return { findings, remarks };
-  refusal.text += `: ${words}`;
+  if (!refusal) return { findings, remarks };
+  // ctd-lint says more of a program, and nothing of presets.
+  const words = refusal.place ? "" : wordsOfPresets(presetsIn(options));
+  if (words) refusal.text += `: ${words}`;
   // (a parenthesis is missing before an END can be)
-  const isEndMissing = /\bEND\b/.test(words);
+  const isEndMissing = /\bEND\b/.test(refusal.text);
   return { findings: findings.filter(({ text }) => isEndMissing || text !== NO_END), remarks };
 }
 

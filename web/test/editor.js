@@ -116,20 +116,21 @@ export async function testFindings(page) {
   expect("nothing is marked in a right program", await page.evaluate(`document.querySelectorAll("#program-side .CodeMirror :is(.error, .warning, .note)").length`), 0);
 }
 
-// Programs, presets, and what is said of their refusal behind the message of the checker.
+// Programs, presets, what is said of their refusal behind the message of the checker, and what ctd-lint says, where that is something else.
+const NO_PARTS = "a number has no fraction, no exponent and no leading zero";
 const REFUSALS = [
   ["ASSERT(n)", "", "expected [ or a comparison or an operator"],
   ["# ü\nREP(3", "", "expected , or ) or an operator"],
-  ["# ü\n REP(3)\nSPACE", "", "expected a command or END (REP of line 2 column 2 is open)"],
-  ["REP(2) SPACE END IF(ISEOF) SPACE", "", "expected a command or ELSE or END (IF of line 1 column 18 is open)"],
+  ["# ü\n REP(3)\nSPACE", "", "expected a command or END (REP of line 2 column 2 is open)", "expected a command or END"],
+  ["REP(2) SPACE END IF(ISEOF) SPACE", "", "expected a command or ELSE or END (IF of line 1 column 18 is open)", "expected a command or ELSE or END"],
   ["SET(a[1,2]=3,b", "", "expected = or ["],
-  ["INT(1.5,2)", "", "1.5 has a fraction, and numbers are whole here"],
-  ["INT(1,1e9)", "", "1e9 has an exponent: write 10^9"],
-  ["INT(1,20E3)", "", "20E3 has an exponent: write 20*10^3"],
-  ["INT(1,007)", "", "007 has a leading zero: write 7"],
-  ["FLOAT(1,2)", "", "numbers are whole here; REGEX reads others"],
-  ['REGEX("(?=a)")', "", "there is no look-ahead and no look-behind"],
-  ['REGEX("(a)\\\\1")', "", "there are no back references"],
+  ["INT(1.5,2)", "", "1.5 has a fraction, and numbers are whole here", NO_PARTS],
+  ["INT(1,1e9)", "", "1e9 has an exponent: write 10^9", NO_PARTS],
+  ["INT(1,20E3)", "", "20E3 has an exponent: write 20*10^3", NO_PARTS],
+  ["INT(1,007)", "", "007 has a leading zero: write 7", NO_PARTS],
+  ["FLOAT(1,2)", "", "numbers are whole here; REGEX reads others", "numbers are whole here, and REGEX reads others"],
+  ['REGEX("(?=a)")', "", "there is no look-ahead and no look-behind", "look-around, including look-ahead and look-behind, is not supported at byte 1 of the pattern"],
+  ['REGEX("(a)\\\\1")', "", "there are no back references", "backreferences are not supported at byte 4 of the pattern"],
   ["SPACE", "n=yes", "expected a number or a string or - behind n="],
   ["SPACE", "a[1=5", "expected , or ] behind a[1"],
   ["SPACE", "n=1 ,m=2", "there is a blank or a comment behind n=1"],
@@ -143,14 +144,14 @@ const REFUSALS = [
 ];
 
 export async function testRefusals(page) {
-  for (const [program, presets, words] of REFUSALS) {
+  for (const [program, presets, words, said = words] of REFUSALS) {
     await page.set("program", program);
     await page.set("presets", presets);
     await page.check();
     expect(`${program} ${presets}: behind the check`, await page.evaluate(`document.getElementById("words").textContent`), words);
     await page.tab.wait(`document.querySelector("#findings:not(.old) .error")`);
     const told = await page.evaluate(`document.querySelector("#findings li").textContent`);
-    expect(`${program} ${presets}: as a finding`, words ? told.endsWith(`: ${words}`) : /(unexpected byte|unfinished string)$/.test(told), true);
+    expect(`${program} ${presets}: as a finding`, said ? told.endsWith(`: ${said}`) : /(unexpected byte|unfinished string)$/.test(told), true);
   }
   await page.set("presets", "");
   // The words for what is wrong with a pattern are those of the browser.
