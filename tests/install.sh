@@ -76,6 +76,7 @@ share/checktestdata/tools/ctd_editing.py
 share/checktestdata/tools/ctd_edits.py
 share/checktestdata/tools/ctd_equal.py
 share/checktestdata/tools/ctd_file_runs.py
+share/checktestdata/tools/ctd_findings.py
 share/checktestdata/tools/ctd_flow.py
 share/checktestdata/tools/ctd_guesses.py
 share/checktestdata/tools/ctd_ladders.py

@@ -4,6 +4,7 @@ The library may be there for the Python of the system alone, as in Debian: then 
 from __future__ import annotations
 
 import itertools
+import json
 import os
 import queue
 import shutil
@@ -163,6 +164,11 @@ class ServerTest(unittest.TestCase):
         path.parent.mkdir(parents=True, exist_ok=True)
         path.write_bytes(text.encode())
         return path
+
+    @staticmethod
+    def finding(line: int, column: int, rank: str, text: str, **others: str) -> str:
+        """A script that writes an object of ctd-lint. The shell puts its variables into the text."""
+        return f"cat <<END\n{json.dumps({'file': 'p.ctd', 'line': line, 'column': column, 'rank': rank, 'text': text, **others})}\nEND\n"
 
     def checker_beside(self, linter: str) -> Path:
         """A checker, and beside it a ctd-lint that does what a script of the shell says, with the file that it is given as $program."""

@@ -324,53 +324,58 @@ class Findings(ServerTest):
 
     def test_ranks_and_ranges(self) -> None:
         script = """cat <<END
-$program:2:1: warning: the string is empty [empty-string]
-$program:2:15: note: nothing reads this variable: n [unread]
-$program:2:26: risk: number overflow: x is only known to be at least 0 [may-overflow]
-$program:3:1: other: a new rank
+{"file":"p.ctd","line":2,"column":1,"rank":"warning","kind":"empty-string","text":"the string is empty"}
+{"file":"p.ctd","line":2,"column":12,"rank":"note","kind":"unread","text":"nothing reads this variable","name":"n","other":["a new key"]}
+{"file":"p.ctd","line":2,"column":24,"rank":"risk","kind":"overflow","text":"may overflow","reason":"x is only known to be at least 0"}
+{"file":"p.ctd","line":3,"column":1,"rank":"risk","kind":"no-value-here","text":"may be without a value here","reason":"n"}
+{"file":"p.ctd","line":3,"column":1,"rank":"never","kind":"begins"}
+{"file":"p.ctd","line":3,"column":1,"rank":"other","what":"a new rank"}
+{"file":"p.ctd","rank":"verdict","text":"every data file gets a verdict"}
 END
-echo "not a finding"; exit 1"""
-        text = '# 😀\nSTRING("") INT(1, 9,n) SET(y=x*x)\nREP(2, SPACE) SPACE END\n'
+exit 1"""
+        text = '# 😀\nSTRING("") INT(1, 9,n) SET(y=x*x)\nREP(n, SPACE) SPACE END\n'
         self.assertEqual(
-            self.findings(script.replace("2:15", "2:12").replace("2:26", "2:24"), text),
+            self.findings(script, text),
             [
                 (2, "the string is empty", "empty-string", span(1, 0, 10)),
                 (4, "nothing reads this variable: n", "unread", span(1, 20, 21)),
-                (3, "number overflow: x is only known to be at least 0", "may-overflow", span(1, 23, 33)),
-                (3, "a new rank", "", span(2, 0, 13)),
+                (3, "may overflow: x is only known to be at least 0", "overflow", span(1, 23, 33)),
+                (3, "may be without a value here: n", "no-value-here", span(2, 4, 5)),
             ],
         )
 
     def test_after_characters_of_several_bytes(self) -> None:
         # "😀ü": STRING(..) has 16 bytes and 13 units
-        script = 'echo "$program:1:18: note: nothing reads this variable: n [unread]"'
+        script = self.finding(1, 18, "note", "nothing reads this variable", kind="unread", name="n")
         self.assertEqual(self.findings(script, 'STRING("😀üx") INT(1,9,n)'), [(4, "nothing reads this variable: n", "unread", span(0, 23, 24))])
 
     def test_presets_reach_it(self) -> None:
-        script = 'echo "$program:1:1: note: $*" | sed "s, -- .*,,"'
+        script = """told=$(echo "$2" | sed 's/"/\\\\"/g')\n""" + self.finding(1, 1, "note", "$told")
         text = '# preset: n=5\n# ü preset: no\n#preset:  m="a,b" \nSTRING("# preset: q=1")'
         found = self.findings(script, text, initializationOptions={"presets": "k=1"})
         self.assertEqual(found, [(4, '--define=k=1,n=5,m="a,b"', "", span(0, 0, 13))])
 
     def test_a_preset_that_the_program_does_not_mention(self) -> None:
-        script = 'echo "$program:1:1: warning: the program does not mention: x [unknown-preset]"'
+        script = self.finding(1, 1, "warning", "the program does not mention", kind="unknown-preset", name="x")
         text = "# preset: ax=1,x=2\nINT(1,ax) NEWLINE"
         self.assertEqual(self.findings(script, text), [(2, "the program does not mention: x", "unknown-preset", span(0, 15, 16))])
 
     def test_of_the_whole_program(self) -> None:
-        self.assertEqual(self.findings('echo "$program: too large to tell"', "SPACE\nSPACE"), [(3, "too large to tell", "", span(0, 0, 5))])
+        script = """echo '{"file":"p.ctd","rank":"verdict","text":"too large to tell"}'"""
+        self.assertEqual(self.findings(script, "SPACE\nSPACE"), [(3, "too large to tell", "", span(0, 0, 5))])
 
     def test_a_linter_that_fails(self) -> None:
         for script, told in [("echo out of memory >&2; exit 2", "out of memory"), ("exit 139", "ended with status 139")]:
             self.assertEqual(self.findings(script, "SPACE"), [(3, f"ctd-lint tells nothing: {told}", "", span(0, 0, 5))])
 
     def test_too_many(self) -> None:
-        script = 'seq 1500 | sed "s,.*,$program:1:1: note: & [unread],"; echo "$program:1:1: warning: bad [x]"'
+        note = '{"file":"p.ctd","line":1,"column":1,"rank":"note","kind":"unread","text":"&"}'
+        script = f"seq 1500 | sed 's/.*/{note}/'\n{self.finding(1, 1, 'warning', 'bad', kind='x')}"
         found = self.findings(script, "SPACE")
         self.assertEqual((len(found), found[0][1], found[-1][:2]), (1001, "bad", (3, "501 more findings are not shown")))
 
     def test_new_settings(self) -> None:
-        client = self.client(self.checker_beside('echo "$program:1:1: note: $1"'))
+        client = self.client(self.checker_beside(self.finding(1, 1, "note", "$2")))
         client.open("SPACE")
         self.assertEqual(client.diagnostics()[0]["message"], "--")
         client.notify("workspace/didChangeConfiguration", settings={"checktestdata": {"presets": "n=5"}})
@@ -380,7 +385,7 @@ echo "not a finding"; exit 1"""
         self.assertEqual(client.diagnostics()[0]["message"], "--")
 
     def test_only_the_last_text_is_told_of(self) -> None:
-        client = self.client(self.checker_beside('sleep 0.5; echo "$program:1:1: note: $(cat "$program")"'))
+        client = self.client(self.checker_beside("sleep 0.5\n" + self.finding(1, 1, "note", "$(cat $program)")))
         client.open("SPACE")
         time.sleep(0.4)
         client.change(2, {"text": "EOF"})

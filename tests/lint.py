@@ -19,10 +19,10 @@ from collections.abc import Iterator
 from pathlib import Path
 from typing import Any
 
-from lint_json import bytes_of, objects_of, streams_of, unmeant
+from lint_json import objects_of, streams_of, unmeant
 from markdown_blocks import blocks
 from tables import unfolded
-from traps_told import EVERY
+from traps_told import EVERY, said_in
 
 TOP = Path(__file__).resolve().parent.parent
 LINTER = TOP / "crates/ctd_lint/out/ctd_lint"
@@ -161,16 +161,15 @@ def as_json(linter: Linter, text: str, words: list[str], status: int) -> Iterato
     _, out, err = linter.run(text, all_words)
     json_status, json_out, json_err = linter.run(text, [*words, "--json"])
     objects = objects_of(json_out)
-    yield "as JSON", (status, out, err), (json_status, *(("", json_err) if json_err else streams_of(objects)))
+    yield "as JSON", (status, out, err), (json_status, *(("", json_err) if json_err else streams_of(json_out)))
     yield "what never happens as JSON", [], unmeant(objects)
 
 
 def strange_names(linter: Linter) -> Iterator[tuple[str, object, object]]:
     """The name of a file comes back from JSON byte for byte, also of one that is not there."""
     _, out, _ = linter.run_on({STRANGE: "INT(1,9,n)"}, ["--json", STRANGE, "x" + STRANGE])
-    objects = objects_of(out)
-    yield "a strange name of a file", [STRANGE.encode()] * 2 + [b"x" + STRANGE.encode()], [bytes_of(said["file"]) for said in objects]
-    yield "the ranks beside it", ["note", "verdict", "error"], [said["rank"] for said in objects]
+    said = [(one.file, one.rank) for one in said_in(out)]
+    yield "a strange name of a file", [(STRANGE, "note"), (STRANGE, "verdict"), ("x" + STRANGE, "error")], said
 
 
 def outcomes(linter: Linter, table: Table) -> Iterator[tuple[str, object, object]]:

@@ -1,7 +1,9 @@
-"""What ctd-lint writes with --json, read again: its objects, and the lines of text that say the same."""
+"""The form of what ctd-lint writes with --json, and the lines of text that tools/ctd_findings.py makes of it."""
 
 import json
 from typing import Any
+
+from traps_told import said_in
 
 # The keys of an object, in their order. All but these have a string.
 KEYS = ["file", "line", "column", "rank", "kind", "text", "name", "reason", "unclosed"]
@@ -56,29 +58,11 @@ def objects_of(output: str) -> list[Said]:
     return objects
 
 
-def bytes_of(text: str) -> bytes:
-    """The bytes that a string stands for."""
-    return text.encode("latin-1")
-
-
-def lines_of(said: Said) -> str:
-    """The lines of text that say the same. What never happens has none."""
-    file, rank = said["file"], said["rank"]
-    if rank == "never":
-        return ""
-    place = "".join(f":{said[key]}" for key in PLACE if key in said)
-    rank_word = "" if rank == "verdict" else f"{rank}: "
-    about = "".join(f": {said[key]}" for key in ("name", "reason") if key in said)
-    kind = f" [{said['kind']}]" if "kind" in said else ""
-    open_command = said.get("unclosed")
-    note = f"{file}:{open_command['line']}:{open_command['column']}: note: this command has no END\n" if open_command else ""
-    return f"{file}{place}: {rank_word}{said['text']}{about}{kind}\n{note}"
-
-
-def streams_of(objects: list[Said]) -> tuple[str, str]:
+def streams_of(output: str) -> tuple[str, str]:
     """What stands as text on standard output and on standard error."""
-    errors = [said for said in objects if said["rank"] == "error"]
-    return "".join(lines_of(said) for said in objects if said not in errors), "".join(map(lines_of, errors))
+    said = list(said_in(output))
+    out, err = ([f"{line}\n" for one in said if (one.rank == "error") == is_error for line in one.lines()] for is_error in (False, True))
+    return "".join(out), "".join(err)
 
 
 def unmeant(objects: list[Said]) -> list[Said]:

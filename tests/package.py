@@ -95,7 +95,10 @@ class Checks(PackageTest):
 
     def test_what_lint_and_cover_say(self) -> None:
         self.put({"input_validators/n.ctd": "SET(maxn=100) INT(1,maxn,n) NEWLINE"})
-        self.write_linter('for last; do :; done\necho "$last:1:15: note: nothing reads this variable: n [unread]"')
+        text = "nothing reads this variable"
+        finding = f'"file":"%s","line":1,"column":15,"rank":"note","kind":"unread","text":"{text}","name":"n"'
+        never = '"file":"%s","line":1,"column":15,"rank":"never","kind":"goes-on"'
+        self.write_linter(f"for last; do :; done\nprintf '{{{finding}}}\\n{{{never}}}\\n' $last $last")
         ran = self.run_tool("p", checker="./checktestdata")
         self.assertEqual(
             ran.stdout.decode().splitlines(),
@@ -242,7 +245,7 @@ class Flags(PackageTest):
     def test_lint_gets_the_presets_of_each_group(self) -> None:
         self.put({"data/secret/a/testdata.yaml": "input_validator_flags: maxn=5", "data/secret/a/1.in": "1\n"})
         self.put({"data/secret/b/testdata.yaml": "input_validator_flags: -w maxn=7", "data/secret/b/1.in": "1\n"})
-        self.write_linter('for last; do :; done\necho "$last:1:1: note: $1"')
+        self.write_linter("""for last; do :; done\nprintf '{"file":"%s","line":1,"column":1,"rank":"note","text":"%s"}\\n' $last $2""")
         ran = self.run_tool("p", checker="./checktestdata")
         found = [line for line in ran.stdout.decode().splitlines() if "note: -" in line]
         self.assertEqual(found, [f"input_validators/n.ctd:1:1: note: --define=maxn={number}" for number in (5, 7)])

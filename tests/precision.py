@@ -121,10 +121,10 @@ def all_cases() -> Iterator[Case]:
     """What ctd-lint is run on. A finding would stand in the place of some traps."""
     table = tomllib.loads((TOP / "tests/lint.toml").read_text())
     for _, text, _, _ in lint.documented(table):
-        yield Case(DOCUMENTED, text)
+        yield Case(DOCUMENTED, text, ("--json",))
     for row in verdicts.rows():
         if row.data is None:
-            yield Case(WITHOUT_TRAP, (verdicts.FOLDER / f"{row.name}.ctd").read_text(), ("--ignore=no-value,wrong-type",))
+            yield Case(WITHOUT_TRAP, (verdicts.FOLDER / f"{row.name}.ctd").read_text(), ("--json", "--ignore=no-value,wrong-type"))
     for _, text, words, _ in lint.rows(table):
         yield Case(ROWS, text, tuple(words))
 

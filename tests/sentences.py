@@ -20,11 +20,11 @@ from fuzzing.findings import IDLE_KINDS, NEVER
 from reference import limits
 from results import TOP, checker_to_test, linter_to_test, print_results
 from tables import unfolded
+from traps_told import said_in
 
 TESTED = "docs/TESTED.md"
 WORDS = "zero one two three four five six seven eight nine ten eleven twelve thirteen fourteen fifteen sixteen seventeen eighteen nineteen twenty".split()
 NUMBER = r"(\d[\d,]*\.?\d*|[a-z]+)"
-KIND = re.compile(r" \[([a-z-]+)\]$", re.MULTILINE)
 # How README says what bench/README.md measured.
 RATIOS = "{integers} times as long as by a C program for just that, and arithmetic alone {arithmetic} times"
 
@@ -36,7 +36,7 @@ def text_of(document: str) -> str:
 
 @dataclass(frozen=True)
 class Run:
-    """A program with data and words; of the checker all that it writes, or of ctd-lint the kinds that it tells, the end of its last line and its status."""
+    """A program with data and words; of the checker all that it writes, or of ctd-lint the kinds that it tells, its verdict and its status."""
 
     program: str
     data: str = ""
@@ -51,11 +51,12 @@ class Run:
         with tempfile.TemporaryDirectory() as folder:
             file = Path(folder) / "F"
             file.write_text(unfolded(self.program))
-            command = [linter if self.writes is None else checker, *self.words, file]
+            command = [*([linter, "--json"] if self.writes is None else [checker]), *self.words, file]
             done = subprocess.run(command, input=self.data, capture_output=True, text=True, check=False)
         if self.writes is None:
-            last = done.stdout.strip().rpartition("F: ")[2] if self.verdict is not None else None
-            found, wanted = str((KIND.findall(done.stdout), last, done.returncode)), str((self.kinds, self.verdict, self.status))
+            said = list(said_in(done.stdout))
+            last = said[-1].text if self.verdict is not None else None
+            found, wanted = str(([one.kind for one in said if one.kind], last, done.returncode)), str((self.kinds, self.verdict, self.status))
         else:
             found, wanted = (done.stdout + done.stderr).strip(), self.writes
         return None if found == wanted else f"{self.program!r} gives {found}, wanted {wanted}"

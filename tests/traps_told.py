@@ -1,7 +1,12 @@
-"""What the built ctd-lint tells of traps: the places at which a run may stop by a fault of a value, and its last line."""
+"""What the built ctd-lint tells of traps: the places at which a run may stop by a fault of a value, and its verdict."""
 
-import re
+import sys
 from dataclasses import dataclass
+
+from results import TOP
+
+sys.path.insert(0, str(TOP / "tools"))
+from ctd_findings import TOO_LARGE, said_in  # noqa: E402, F401
 
 # The kinds of traps that stand for each fault of a value.
 KINDS = {
@@ -22,7 +27,6 @@ CONDITIONS = {
     f"{EVERY}, if arrays in UNIQUE have values at the same indices": ["other-shape"],
     f"{EVERY}, if elements have values where they are read, and arrays in UNIQUE at the same indices": ["no-element-here", "other-shape"],
 }
-LINE = re.compile(r"[^:]*:(\d+):(\d+): (?:warning|risk|note): .* \[([a-z-]+)\]")
 
 # The line and the column of a command, and the kind of a trap.
 Told = tuple[int, int, str]
@@ -30,20 +34,18 @@ Told = tuple[int, int, str]
 
 @dataclass(frozen=True)
 class Report:
-    """The traps that are told, and what the line of --verdicts says, if there is one."""
+    """The traps that are told, and the verdict; no text where the program is refused."""
 
     traps: frozenset[Told]
     verdicts: str = ""
 
     def excludes(self, kind: str) -> bool:
-        """Whether the line of --verdicts says that no run stops by a trap of a kind."""
+        """Whether the verdict says that no run stops by a trap of a kind."""
         return self.verdicts in CONDITIONS and kind not in CONDITIONS[self.verdicts]
 
 
 def report_of(output: str) -> Report:
-    """What the lines for one program tell."""
-    lines = output.splitlines()
-    found = [match for line in lines if (match := LINE.fullmatch(line))]
-    traps = frozenset((int(match[1]), int(match[2]), match[3]) for match in found if match[3] in TRAP_KINDS)
-    last = lines[-1] if lines else ""
-    return Report(traps, "" if LINE.fullmatch(last) else last.partition(": ")[2])
+    """What the objects for one program tell."""
+    said = list(said_in(output))
+    traps = frozenset((one.place.line, one.place.column, one.kind) for one in said if one.place and one.kind in TRAP_KINDS)
+    return Report(traps, "".join(one.text for one in said if one.rank == "verdict"))

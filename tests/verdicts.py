@@ -48,7 +48,7 @@ def faults_of_run(checker: Path, row: Row) -> Iterator[str]:
 
 def traps_told(linter: Path, row: Row) -> frozenset[Told]:
     """The traps that ctd-lint tells of a program, and those that a finding would tell in their place."""
-    run = subprocess.run([linter, "--ignore=no-value,wrong-type", FOLDER / f"{row.name}.ctd"], capture_output=True, text=True, check=False)
+    run = subprocess.run([linter, "--json", "--ignore=no-value,wrong-type", FOLDER / f"{row.name}.ctd"], capture_output=True, text=True, check=False)
     return report_of(run.stdout).traps
 
 

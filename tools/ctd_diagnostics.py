@@ -2,7 +2,6 @@
 from __future__ import annotations
 
 import os
-import re
 import subprocess
 import tempfile
 from collections.abc import Callable, Sequence
@@ -10,16 +9,14 @@ from dataclasses import dataclass
 from enum import IntEnum
 from pathlib import Path
 
-from ctd_companion import FITS, REJECTED, Answer, Checker, Place, find_program, printable, text_of
+from ctd_companion import FITS, REJECTED, Answer, Checker, find_program, printable, text_of
 from ctd_document import Document, Earlier
+from ctd_findings import LINTER, Finding, findings_in
 from ctd_refusals import expected_words, words_of_presets, words_of_refusal
 from ctd_processes import started
 from ctd_symbols import head_end, open_part, preset_mentions, tokens_in
 from ctd_text import Text
 
-LINTER = "ctd-lint"
-# A line of ctd-lint behind the name of the file: the place, the rank, the text and the kind. What is said of the whole program has the text alone.
-FINDING = re.compile(r"(?::(\d+):(\d+))?: (?:([a-z]+): )?(.*?)(?: \[([a-z-]+)\])?")
 # How many findings an editor gets.
 MOST_FINDINGS = 1000
 # How often it is looked whether a result is still wanted, in seconds.
@@ -79,11 +76,12 @@ def diagnostics(tools: Tools, document: Document, presets: str, is_wanted: Calla
         document.is_program = True
         if tools.linter is None:
             return []
-        ran = run_while([tools.linter, *define, "--", program], is_wanted)
+        ran = run_while([tools.linter, "--json", *define, "--", program], is_wanted)
         if ran.returncode not in (FITS, REJECTED):
-            told = text_of(ran.stderr).strip().removeprefix(program) or f"ended with status {ran.returncode}"
+            errors = (one.text for one in findings_in(text_of(ran.stdout)) if one.rank == "error")
+            told = text_of(ran.stderr).strip() or next(errors, f"ended with status {ran.returncode}")
             return [of_all(document.text, f"{LINTER} tells nothing: {printable(told)}")]
-        return findings(document, text_of(ran.stdout), program)
+        return diagnostics_of(document, findings_in(text_of(ran.stdout)))
 
 
 def define_option(document: Document | Earlier, others: str) -> list[str]:
@@ -144,16 +142,15 @@ def token_end(text: Text, start: int) -> int:
     return text.character_end(start) if kind == "unexpected" else end
 
 
-def findings(document: Document, written: str, program: str) -> list[Diagnostic]:
-    """The findings in what ctd-lint wrote of a program; where there are too many, the gravest."""
-    lines = [parts for line in written.splitlines() if (parts := FINDING.fullmatch(line.removeprefix(program)))]
-    shown = lines
-    if len(lines) > MOST_FINDINGS:
-        shown = sorted(lines, key=severity_of)[:MOST_FINDINGS]
-    found = [finding(document, parts) for parts in shown]
-    if len(lines) > len(shown):
-        found.append(of_all(document.text, f"{len(lines) - len(shown)} more findings are not shown"))
-    return found
+def diagnostics_of(document: Document, found: list[Finding]) -> list[Diagnostic]:
+    """What ctd-lint found in a program; where that is too much, the gravest."""
+    shown = found
+    if len(found) > MOST_FINDINGS:
+        shown = sorted(found, key=severity_of)[:MOST_FINDINGS]
+    told = [diagnostic(document, one) for one in shown]
+    if len(found) > len(shown):
+        told.append(of_all(document.text, f"{len(found) - len(shown)} more findings are not shown"))
+    return told
 
 
 def of_all(text: Text, message: str) -> Diagnostic:
@@ -161,21 +158,20 @@ def of_all(text: Text, message: str) -> Diagnostic:
     return Diagnostic(0, text.line_end(0), Severity.INFORMATION, LINTER, message)
 
 
-def severity_of(parts: re.Match[str]) -> Severity:
-    return SEVERITY_OF_RANK.get(parts[3], Severity.INFORMATION)
+def severity_of(finding: Finding) -> Severity:
+    return SEVERITY_OF_RANK.get(finding.rank, Severity.INFORMATION)
 
 
-def finding(document: Document, parts: re.Match[str]) -> Diagnostic:
-    """The finding of a line. It marks the name with which its text ends, or else the head of the command."""
-    text, message, kind = document.text, parts[4], parts[5] or ""
-    if parts[1] is None:
-        return of_all(text, message)
-    start = text.offset_at(Place(int(parts[1]), int(parts[2])))
+def diagnostic(document: Document, finding: Finding) -> Diagnostic:
+    """A finding. It marks the name that it is about, or else the head of the command."""
+    text, name = document.text, finding.about.encode("utf-8", "surrogateescape")
+    if finding.place is None:
+        return of_all(text, finding.message)
+    start = text.offset_at(finding.place)
     end = head_end(text.data, start) if token_end(text, start) > start else text.line_end(start)
-    name = message.rpartition(": ")[2].encode()
-    if kind == "unknown-preset":
+    if finding.kind == "unknown-preset":
         given = [one for preset in document.presets for one in preset_mentions(preset) if one.name == name]
         start, end = (given[0].offset, given[0].end) if given else (0, text.line_end(0))
     named = next((token for token in tokens_in(text.data[start:end]) if token.kind == "name" and token.text == name), None)
     start, end = (start + named.offset, start + named.end) if named else (start, end)
-    return Diagnostic(start, end, severity_of(parts), LINTER, message, kind)
+    return Diagnostic(start, end, severity_of(finding), LINTER, finding.message, finding.kind)

@@ -1,9 +1,10 @@
 // The checker and ctd-lint as WebAssembly modules, for a page, a worker and Node.
 import { findingsIn } from "./message.js";
 
-// Room for each of the two texts of an answer, in bytes. A message of the checker has a few hundred, the help some two thousand; of the findings of
-// ctd-lint the first count.
+// Room for the texts of an answer, in bytes. A message of the checker has a few hundred, the help some two thousand; ctd-lint says up to a line of each
+// command.
 const TEXT_SIZE = 1 << 16;
+const LINES_SIZE = 1 << 24;
 
 // An address of the modules has 32 bits.
 const MEMORY = 2 ** 32;
@@ -40,8 +41,8 @@ class Instance {
   }
 
   // Runs the program of the module on the words of a command line and on bytes in the memory: the status and both texts.
-  call(words, program, testdata) {
-    const texts = [TEXT_SIZE, TEXT_SIZE].map((size) => this.reserve(size));
+  call(words, program, testdata, outSize = TEXT_SIZE) {
+    const texts = [outSize, TEXT_SIZE].map((size) => this.reserve(size));
     const lengths = this.reserve(8);
     const places = [this.copy(new TextEncoder().encode(words.join("\0"))), program, testdata, ...texts];
     const status = this.exports.checktestdata_run(...places.flatMap(({ start, size }) => [start, size]), lengths.start);
@@ -67,7 +68,7 @@ export class Checker extends Instance {
 export class Linter extends Instance {
   // What ctd-lint says of a program in the memory, and of the verdicts that data get.
   findings(options, program) {
-    const { out, err } = this.call(["ctd-lint", "--verdicts", ...options, "--", "program"], program, this.reserve(0));
-    return findingsIn(err + out);
+    const { out, err } = this.call(["ctd-lint", "--json", ...options, "--", "program"], program, this.reserve(0), LINES_SIZE);
+    return findingsIn(out, err);
   }
 }

@@ -8,6 +8,10 @@ const CARRIAGE_RETURN = "\\r";
 export const LINE_FEED = "↵";
 const END = "‹end of text›";
 
+// The ranks of findings, and what is said of the last command without an END in a program that is refused.
+const RANKS = ["error", "warning", "risk", "note"];
+export const NO_END = "this command has no END";
+
 // The spot in the data and the place in the program that an answer names, null where it names none; and the message, without them.
 export function placesIn(answer) {
   const spot = /^(?:checktestdata: )?line (\d+) column (\d+): /.exec(answer);
@@ -17,19 +21,18 @@ export function placesIn(answer) {
   return { spot: numbers(spot), place: numbers(place), message };
 }
 
-// What ctd-lint says in lines `FILE:LINE:COLUMN: RANK: TEXT`, `ctd-lint: TEXT` and `FILE: TEXT`: the findings, each with its rank (error, warning, risk or
-// note), its text, and its place, or null where it has none; and the remarks on the whole program.
-export function findingsIn(lines) {
-  const found = { findings: [], remarks: [] };
-  for (const line of lines.split("\n")) {
-    const [, row, column, rank, text] = /^program(?::(\d+):(\d+))?: (error|warning|risk|note): (.*)$/.exec(line) ?? [];
-    const fault = /^ctd-lint: (.*)$/.exec(line);
-    const remark = /^program: (.*)$/.exec(line);
-    if (text) found.findings.push({ place: row ? { line: Number(row), column: Number(column) } : null, rank, text });
-    else if (fault) found.findings.push({ place: null, rank: "error", text: fault[1] });
-    else if (remark) found.remarks.push(remark[1]);
-  }
-  return found;
+// What ctd-lint says with --json, and on standard error in lines `ctd-lint: TEXT`: the findings, each with its rank (error, warning, risk or note), its text,
+// and its place, or null where it has none; and the remarks on the whole program. A line that is cut off is passed over.
+export function findingsIn(out, err) {
+  const errors = Array.from(err.matchAll(/^ctd-lint: (.*)$/gm), ([, text]) => ({ place: null, rank: "error", text }));
+  const said = out.split("\n").slice(0, -1).map((line) => JSON.parse(line));
+  const placeOf = ({ line, column }) => (line ? { line, column } : null);
+  const findings = said.filter(({ rank }) => RANKS.includes(rank)).flatMap((it) => {
+    const text = [it.text, it.name, it.reason].filter(Boolean).join(": ") + (it.kind ? ` [${it.kind}]` : "");
+    const finding = { place: placeOf(it), rank: it.rank, text };
+    return it.unclosed ? [finding, { place: placeOf(it.unclosed), rank: "note", text: NO_END }] : [finding];
+  });
+  return { findings: [...errors, ...findings], remarks: said.filter(({ rank }) => rank === "verdict").map(({ text }) => text) };
 }
 
 // The index of a column in the text of a line. Columns count bytes from 1, and a text has units of UTF-16.

@@ -1,6 +1,6 @@
 // Runs the checker or ctd-lint in the background. The page ends the worker to stop a check, and starts a new one for the next.
 import { Checker, Linter } from "./checker.js";
-import { excerpt, placesIn } from "./message.js";
+import { NO_END, excerpt, placesIn } from "./message.js";
 import { offsetAt, textOf } from "./program.js";
 import { wordsOfPresets, wordsOfRefusal } from "./refusals.js";
 import { valuesAt } from "./values.js";
@@ -10,8 +10,6 @@ const STEP_LIMIT = "step limit reached";
 const MOST_STEPS = 2n ** 64n - 1n;
 // Of longer programs and data, in bytes, no values are asked for.
 const LONGEST = 2 ** 20;
-// What ctd-lint says of the last command without an END in a program that is refused.
-const NO_END = "this command has no END";
 
 // The presets of a command line.
 function presetsIn(options) {

@@ -20,12 +20,12 @@ from reference.faults import LeftOut
 from reference.run import Run, Site
 from reference.store import Store
 from reference.values import Value
+from traps_told import said_in
 
 from .case import Case
 from .cases import case_of
 from .verdicts import VERDICTS, Linter
 
-LINE = re.compile(r"[^:]*:(\d+):(\d+): (?:warning|note): .*?(?:: (\w+))? \[([a-z-]+)\]")
 NAME = re.compile(rb"[a-z][a-z0-9]*")
 WORD = re.compile(rb"[A-Z]+")
 
@@ -90,12 +90,11 @@ def never_at(places: Sequence[str], kind: str) -> Claims:
 
 def found_in(output: str) -> Iterator[tuple[str, Claims]]:
     """The kinds of the findings that claim something of runs, each with its claim."""
-    for line in output.splitlines():
-        match = LINE.fullmatch(line)
-        if match and match[4] in IDLE_KINDS:
-            yield match[4], Claims(idle=frozenset([match[3].encode()]))
-        elif match and match[4] in NEVER:
-            yield match[4], never_at([f"line {match[1]} column {match[2]}"], match[4])
+    for one in said_in(output):
+        if one.kind in IDLE_KINDS:
+            yield one.kind, Claims(idle=frozenset([one.name.encode()]))
+        elif one.kind in NEVER and one.place:
+            yield one.kind, never_at([f"line {one.place.line} column {one.place.column}"], one.kind)
 
 
 def all_of(claims: Sequence[Claims]) -> Claims:

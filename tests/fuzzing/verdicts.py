@@ -13,7 +13,7 @@ from reference.store import Indices, Store
 from reference.tool import Answer
 from reference.values import Value
 from reference.words import Asked, sort_words
-from traps_told import EVERY, KINDS, TRAP_KINDS, Report, report_of
+from traps_told import EVERY, KINDS, TOO_LARGE, TRAP_KINDS, Report, report_of
 
 from .case import Case
 from .cases import case_of, case_with_arrays
@@ -21,7 +21,6 @@ from .checker import Checker, write_program
 
 STOP = re.compile(rb"checktestdata: line \d+ column \d+: (.*) \(program line (\d+) column (\d+)\)\n")
 VERDICTS = (0, 1)
-TOO_LARGE = "too large to tell"
 
 
 @dataclass(frozen=True)
@@ -54,7 +53,7 @@ class Linter:
         self.program = program
 
     def output(self, case: Case, *options: str) -> str:
-        """What it writes of the program with these options and the presets of the case; nothing where the words of the case ask for no check."""
+        """What it writes of the program with --json, these options and the presets of the case; nothing where the words of the case ask for no check."""
         try:
             given = sort_words([word.decode() for word in case.words])
         except (Asked, Misused, UnicodeDecodeError):
@@ -62,14 +61,14 @@ class Linter:
         write_program(case)
         define = given.options.get("define")
         presets = [] if define is None else [f"--define={define}"]
-        words = [self.program, *options, *presets, "--", given.files[0]]
+        words = [self.program, "--json", *options, *presets, "--", given.files[0]]
         done = subprocess.run(words, stdin=subprocess.DEVNULL, capture_output=True, text=True, errors="replace", check=False)
         return done.stdout
 
     def report(self, case: Case) -> Report | None:
         """What it tells of the program of a case, if it tells something."""
-        output = self.output(case, "--verdicts", "--ignore=no-value,wrong-type")
-        return report_of(output) if output else None
+        report = report_of(self.output(case, "--ignore=no-value,wrong-type"))
+        return report if report.verdicts else None
 
 
 def case_to_compare(seed: int, number: int) -> Case:

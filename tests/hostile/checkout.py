@@ -88,8 +88,8 @@ class Checkout(unittest.TestCase):
             stdin=subprocess.DEVNULL,
             stderr=subprocess.PIPE,
             start_new_session=True,
-            # What starts in the background of a shell ignores interrupts.
-            preexec_fn=lambda: signal.signal(signal.SIGINT, signal.SIG_DFL),
+            # What starts in the background of a shell ignores interrupts, and under nohup the end of a terminal.
+            preexec_fn=lambda: signal.signal(sent, signal.SIG_DFL),
         ) as started:
             assert started.stderr
             while self.sleeping() < 4:
