@@ -23,7 +23,7 @@ pub use Rattle.ctd_outcome.specs.declared.reason.Fault.{Fault}
 pub use Rattle.ctd_outcome.specs.declared.reason.Reason.TheVariants.{AssertFailed, ExpectedEof, ExpectedInt, ExpectedNewline, ExpectedSpace, LeadingZero, MinusZero, OutOfRange, StringMismatch}
 pub use Rattle.ctd_outcome.specs.declared.reason.Reason.{Reason}
 pub use Rattle.ctd_partitions.specs.calls.Partitions.{OneStands, PartitionIsWithin, IsInPartition, IsUpperBound}
-pub use Rattle.ctd_partitions.specs.calls.States.{IsCopyOf, IsPinnedBy, PaysOne, StateStands}
+pub use Rattle.ctd_partitions.specs.calls.States.{IsCopyOf, IsPinnedBy, IsStateWithin, PaysOne, StateStands}
 pub use Rattle.ctd_partitions.specs.inner.States.{IsNever}
 pub use Rattle.ctd_partitions.specs.declared.state.State.{State as AbstractState}
 pub use Rattle.ctd_pattern.specs.Pattern.{length_at_start}

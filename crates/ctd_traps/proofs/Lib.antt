@@ -18,6 +18,7 @@ pub mod Framing
 pub mod Holding
 pub mod Looping
 pub mod Unrolling
+pub mod Widening
 pub mod Knowing
 pub mod Ending
 pub mod Joining

@@ -129,3 +129,7 @@ between_keeps g states after noted c step pins d all k h stand part =
 
 pub nothing_between : (g : Context) (states : List AbstractState) (noted : Noted) → SeparatorKeeps g states states noted Tree.nothing
 nothing_between g states noted pins d all k h stand part = none_leads d (noted_in g all) (HoldsBeside g pins states (λ name. SparesBetween name Tree.nothing) h)
+
+-- a command leads from the states of a partition where it does from those of a wider one
+pub wider_step : (g : Context) (states wider after : List AbstractState) (noted : Noted) (c : CommandTree) → PartitionIsWithin g states wider → StepKeeps g wider after noted c → StepKeeps g states after noted c
+wider_step g states wider after noted c within step pins d all h stand part ts n s here = step pins d all h stand part ts n s (tells_holds g pins states wider within n s here.0, here.1)

@@ -22,6 +22,7 @@ mod trap;
 mod turn;
 mod unroll;
 mod walk;
+mod widest;
 
 pub use block::{CommandInBlock, all_commands};
 pub use collector::Collector;

@@ -92,6 +92,13 @@ pub(crate) fn is_inductive(context: Context, candidate: &[State], passed: &Round
     are_within(context, passed.end.as_slice(), candidate)
 }
 
+/// A candidate that was tried: the passage by it, if it is inductive, and the states at the end of a turn.
+#[derive(Drop)]
+pub(crate) struct Tried {
+    pub(crate) passage: Option<Passage>,
+    pub(crate) end: Vec<State>,
+}
+
 /// The states behind a loop, and what was noted in it.
 #[derive(Drop)]
 pub(crate) struct Passage {

@@ -9,10 +9,10 @@ ghost use Rattle.ctd_traps.specs.inner.Passages.{BegunFrom, Passes, PassesOnceBe
 ghost use Rattle.ctd_traps.specs.inner.Unrolled.{SeparatesAt, TurnKeeps};
 ghost use Rattle.ctd_traps.specs.inner.Walk.{RoundKeeps, SeparatorKeeps, StepKeeps, WalkKeeps, choice_at, loop_at};
 
-use crate::budget::{Budget, may_try, part_of, pay, pay_part, pay_round, pay_turn};
+use crate::budget::{Budget, is_spent, may_try, part_of, pay, pay_part, pay_round, pay_turn};
 use crate::note::{Noted, note_all, note_faults, nothing_noted};
 use crate::passage::{
-    Passage, Round, begin_later, is_inductive, join_outside, none_if_given_up, note_start,
+    Passage, Round, Tried, begin_later, is_inductive, join_outside, none_if_given_up, note_start,
     with_fewer_traps,
 };
 use crate::simple::{ask_branches, assert, join_branches, take};
@@ -20,6 +20,7 @@ use crate::turn::{Counting, LoopStart, begin};
 use crate::unroll::{
     TURNS, begin_turn, facts_allowed, has_few_turns, has_inner_loop, have_few_facts, is_plain,
 };
+use crate::widest::{widest_candidate, without_facts};
 use ctd_partitions::{State, join_partitions, widen_partition};
 use ctd_program::{Action, Choice, Command, Commands, Loop};
 use ctd_states::{Context, Stop};
@@ -65,7 +66,7 @@ fn walk_block(
     walk(block.as_slice(), context, states, noted, budget)
 }
 
-/// The states behind a command.
+/// The states behind a command. Once the steps are spent, no facts are known before it.
 #[cycle(walk)]
 fn step(
     command: &Command,
@@ -78,6 +79,25 @@ fn step(
     ensures keeps { IfOk result (λ after. StepKeeps context.entry states.now after.items noted.new (command_tree command.now)) }
 {
     pay(budget, command, states)?;
+    if !is_spent(budget) {
+        return act(command, context, states, noted, budget);
+    }
+    let wider = without_facts(context, states)?;
+    act(command, context, wider.as_slice(), noted, budget)
+}
+
+/// The states behind a command that is paid.
+#[cycle(walk)]
+fn act(
+    command: &Command,
+    context: Context,
+    states: &[State],
+    noted: &mut Noted,
+    budget: &mut Budget,
+) -> Result<Vec<State>, Stop>
+    ensures more { OnOk result (IsPart context.entry noted.old noted.new) }
+    ensures keeps { IfOk result (λ after. StepKeeps context.entry states.now after.items noted.new (command_tree command.now)) }
+{
     let place = command.place;
     match &command.action {
         Action::Space
@@ -247,8 +267,62 @@ fn unroll(
     Ok(None)
 }
 
+/// Tries a candidate for the states before each turn but the first.
+#[cycle(walk)]
+fn try_candidate(
+    repeated: &Loop,
+    place: Place,
+    context: Context,
+    begun: &LoopStart,
+    candidate: &[State],
+    budget: &mut Budget,
+) -> Result<Tried, Stop>
+    ensures { IfOk result (λ tried. IfSome tried.passage (λ p. PassesOnceBegun context.entry begun.now place repeated.now p)) }
+{
+    let mut inside = nothing_noted(context.alloc, budget.with_states);
+    let passed = go_round(
+        repeated,
+        place,
+        context,
+        begun,
+        candidate,
+        &mut inside,
+        budget,
+    )?;
+    let is_found = is_inductive(context, candidate, &passed);
+    let Round { outside, end } = passed;
+    if !is_found {
+        return Ok(Tried { passage: None, end });
+    }
+    let passage = join_outside(context, begun.first.outside.as_slice(), outside, inside)?;
+    Ok(Tried {
+        passage: Some(passage),
+        end,
+    })
+}
+
+/// The passage through a loop by the widest candidate, unless another was found.
+#[cycle(walk)]
+fn found_or_widest(
+    found: Option<Passage>,
+    repeated: &Loop,
+    place: Place,
+    context: Context,
+    begun: &LoopStart,
+    budget: &mut Budget,
+) -> Result<Option<Passage>, Stop>
+    ensures { IfOk result (λ answer. IfSome found (λ p. PassesOnceBegun context.entry begun.now place repeated.now p) → IfSome answer (λ p. PassesOnceBegun context.entry begun.now place repeated.now p)) }
+{
+    if found.is_some() {
+        return Ok(found);
+    }
+    let widest = widest_candidate(context)?;
+    let tried = try_candidate(repeated, place, context, begun, widest.as_slice(), budget)?;
+    Ok(tried.passage)
+}
+
 /// The passage through a loop by a candidate for the states before each turn but the first. It is widened until it is inductive, and then narrowed
-/// once. None where it is not inductive in the end.
+/// once; where this takes too long, the widest candidate is the last. None where that is not inductive.
 #[cycle(walk)]
 fn search(
     repeated: &Loop,
@@ -260,36 +334,30 @@ fn search(
     ensures { IfOk result (λ answer. IfSome answer (λ p. PassesOnceBegun context.entry begun.now place repeated.now p)) }
 {
     let mut candidate = Vec::new(context.alloc);
-    let mut is_narrowed = false;
+    let mut found = None;
     for round in 0..ROUNDS {
-        let mut inside = nothing_noted(context.alloc, budget.with_states);
-        let passed = go_round(
+        if is_spent(budget) {
+            return found_or_widest(found, repeated, place, context, begun, budget);
+        }
+        let Tried { passage, end } = try_candidate(
             repeated,
             place,
             context,
             begun,
             candidate.as_slice(),
-            &mut inside,
             budget,
         )?;
-        if is_inductive(context, candidate.as_slice(), &passed) {
-            if is_narrowed || round < WIDENED {
-                let first = begun.first.outside.as_slice();
-                let passage = join_outside(context, first, passed.outside, inside)?;
-                return Ok(Some(passage));
+        if passage.is_some() {
+            if found.is_some() || round < WIDENED {
+                return Ok(passage);
             }
-            is_narrowed = true;
-            candidate = passed.end;
+            found = passage;
+            candidate = end;
         } else {
-            candidate = widen_partition(
-                context,
-                candidate.as_slice(),
-                passed.end.as_slice(),
-                round,
-            )?;
+            candidate = widen_partition(context, candidate.as_slice(), end.as_slice(), round)?;
         }
     }
-    Ok(None)
+    found_or_widest(found, repeated, place, context, begun, budget)
 }
 
 /// The passage through a loop by a candidate, where the loops in it have candidates too.
@@ -367,7 +435,7 @@ fn pass(
     ensures { IfOk result (λ p. BegunFrom context.entry states.now begun.now repeated.now → Passes context.entry states.now begun.now.counting place repeated.now p) }
 {
     let counting = &begun.counting;
-    if is_plain(context.alloc, repeated, &counting.turns)? {
+    if !is_spent(budget) && is_plain(context.alloc, repeated, &counting.turns)? {
         if let Some(passage) = try_turns(repeated, place, context, counting, states, budget)? {
             return Ok(passage);
         }

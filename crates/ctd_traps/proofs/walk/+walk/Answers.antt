@@ -3,7 +3,7 @@ use Rattle.ctd_traps.proofs.Common.{arith, command_list, command_tree, if_ok_mor
 use Rattle.ctd_program.specs.Tree
 use Rattle.ctd_traps.specs.calls.Events.{goes_on}
 use Rattle.ctd_traps.proofs.Noting.{begun_more, faults_more, noted_more, part_trans}
-use Rattle.ctd_traps.proofs.Walking.{between_keeps, choice_steps, separator_more}
+use Rattle.ctd_traps.proofs.Walking.{between_keeps, choice_steps, separator_more, wider_step}
 use Rattle.ctd_traps.proofs.Steps.{begins_more, begun_passes, choice_step, loop_step, one_passes, passed_keeps, same_or_none, search_passes, walk_done, walk_step}
 use Rattle.ctd_traps.proofs.Unrolling.{begins_at_more, nothing_left, separates_later, separates_more, unroll_ends, unroll_goes_on, unroll_starts}
 use Rattle.ctd_traps.proofs.walk.+walk.Goals as goal
@@ -18,15 +18,15 @@ walk-loop-command-preserved t c = record {
 pub walk-returns-clause-keeps : goal.walk-returns-clause-keeps
 walk-returns-clause-keeps t c = walk_done c.args.context c.args.states.items c.loop-command.after.items c.loop-command.noted c.args.commands.now c.loop-command.command-index c.loop-command-test.false c.loop-command.invariant.leads
 
-pub step-returns-in-If-clause-keeps : goal.step-returns-in-If-clause-keeps
-step-returns-in-If-clause-keeps t c =
+pub act-returns-in-If-clause-keeps : goal.act-returns-in-If-clause-keeps
+act-returns-in-If-clause-keeps t c =
     let g = c.args.context in
     let found = c.choose.new.noted in
     if_ok_more (λ (v : Vec AbstractState). StepKeeps g c.args.states.now v.items found (choice_at c.args.command.now.place c.deref-in-If.result.now)) (λ (v : Vec AbstractState). StepKeeps g c.args.states.now v.items found (command_tree c.args.command.now)) c.choose.result
     (λ v so. choice_step g c.args.states.now v.items found c.args.command.now.action c.in-If.choice c.deref-in-If.result.now c.args.command.now.place c.in-If.is c.deref-in-If.ensures so) c.choose.ensures.keeps
 
-pub step-returns-in-Loop-clause-keeps : goal.step-returns-in-Loop-clause-keeps
-step-returns-in-Loop-clause-keeps t c =
+pub act-returns-in-Loop-clause-keeps : goal.act-returns-in-Loop-clause-keeps
+act-returns-in-Loop-clause-keeps t c =
     let g = c.args.context in
     let found = c.repeat.new.noted in
     if_ok_more (λ (v : Vec AbstractState). StepKeeps g c.args.states.now v.items found (loop_at c.args.command.now.place c.deref-in-Loop.result.now)) (λ (v : Vec AbstractState). StepKeeps g c.args.states.now v.items found (command_tree c.args.command.now)) c.repeat.result
@@ -45,8 +45,8 @@ separate-returns-in-Some-clause-keeps t c =
 pub walk_block-returns-clause-keeps : goal.walk_block-returns-clause-keeps
 walk_block-returns-clause-keeps t c = rw (list_commands c.args.block.now, sym c.as_slice.ensures) c.walk.ensures.keeps
 
-pub step-returns-in-Assert-clause-keeps : goal.step-returns-in-Assert-clause-keeps
-step-returns-in-Assert-clause-keeps t c =
+pub act-returns-in-Assert-clause-keeps : goal.act-returns-in-Assert-clause-keeps
+act-returns-in-Assert-clause-keeps t c =
     let found = c.assert.new.noted in
     let place = c.args.command.now.place in
     rw c.in-Assert.is
@@ -116,20 +116,20 @@ separate-returns-in-Some-clause-more t c = c.step.ensures.more
 pub walk_block-returns-clause-more : goal.walk_block-returns-clause-more
 walk_block-returns-clause-more t c = c.walk.ensures.more
 
-pub step-returns-in-Assert-clause-more : goal.step-returns-in-Assert-clause-more
-step-returns-in-Assert-clause-more t c = c.assert.ensures.more
+pub act-returns-in-Assert-clause-more : goal.act-returns-in-Assert-clause-more
+act-returns-in-Assert-clause-more t c = c.assert.ensures.more
 
-pub step-returns-in-Loop-clause-more : goal.step-returns-in-Loop-clause-more
-step-returns-in-Loop-clause-more t c = c.repeat.ensures.more
+pub act-returns-in-Loop-clause-more : goal.act-returns-in-Loop-clause-more
+act-returns-in-Loop-clause-more t c = c.repeat.ensures.more
 
-pub step-returns-in-If-clause-more : goal.step-returns-in-If-clause-more
-step-returns-in-If-clause-more t c = c.choose.ensures.more
+pub act-returns-in-If-clause-more : goal.act-returns-in-If-clause-more
+act-returns-in-If-clause-more t c = c.choose.ensures.more
 
-pub step-returns-in-Space-clause-more : goal.step-returns-in-Space-clause-more
-step-returns-in-Space-clause-more t c = c.take.ensures.more
+pub act-returns-in-Space-clause-more : goal.act-returns-in-Space-clause-more
+act-returns-in-Space-clause-more t c = c.take.ensures.more
 
-pub step-returns-in-Space-clause-keeps : goal.step-returns-in-Space-clause-keeps
-step-returns-in-Space-clause-keeps t c = c.take.ensures.keeps
+pub act-returns-in-Space-clause-keeps : goal.act-returns-in-Space-clause-keeps
+act-returns-in-Space-clause-keeps t c = c.take.ensures.keeps
 
 pub take_turn-returns-clause-more : goal.take_turn-returns-clause-more
 take_turn-returns-clause-more t c = λ x e is. c.in_ok-end.ensures.more x e (c.in_ok-before.ensures.more x e (c.in_ok-begun.ensures.more x e is))
@@ -195,25 +195,57 @@ unroll-returns-then-is_empty t c =
     unroll_ends c.args.context c.args.states.now c.loop-k.before.items c.args.place c.args.repeated.now c.args.counting.now c.loop-k.k (record { after = c.loop-k.after; inside = c.loop-k.inside })
     (nothing_left c.loop-k.before.items (grind (arith, nat_tests, c.loop-k.before.ok.0, c.if-is_empty.ensures))) c.loop-k.invariant.start c.loop-k.invariant.leads
 
-pub search-returns-then-is_narrowed : goal.search-returns-then-is_narrowed
-search-returns-then-is_narrowed t c =
+pub step-returns-then-not-is_spent-clause-more : goal.step-returns-then-not-is_spent-clause-more
+step-returns-then-not-is_spent-clause-more t c = c.act.ensures.more
+
+pub step-returns-then-not-is_spent-clause-keeps : goal.step-returns-then-not-is_spent-clause-keeps
+step-returns-then-not-is_spent-clause-keeps t c = c.act.ensures.keeps
+
+pub step-returns-clause-more : goal.step-returns-clause-more
+step-returns-clause-more t c = c.act-2.ensures.more
+
+pub step-returns-clause-keeps : goal.step-returns-clause-keeps
+step-returns-clause-keeps t c =
+    let g = c.args.context in
+    let found = c.act-2.new.noted in
+    let tree = command_tree c.args.command.now in
+    if_ok_more (λ (v : Vec AbstractState). StepKeeps g c.as_slice.result.now v.items found tree) (λ (v : Vec AbstractState). StepKeeps g c.args.states.now v.items found tree) c.act-2.result
+    (λ v so. wider_step g c.args.states.now c.as_slice.result.now v.items found tree (subst (PartitionIsWithin g c.args.states.now) (sym c.as_slice.ensures.value) c.in_ok-wider.ensures) so) c.act-2.ensures.keeps
+
+pub try_candidate-returns : goal.try_candidate-returns
+try_candidate-returns t c =
     let g = c.args.context in
     let l = c.args.repeated.now in
     let place = c.args.place in
     let begun = c.args.begun.now in
     let counting = begun.counting in
-    let candidate = c.loop-round.candidate.items in
+    let candidate = c.args.candidate.now in
     let first = begun.first in
     let first_inside = first.inside.items in
     let first_outside = first.outside.items in
     let passed = c.in_ok-passed.passed in
-    let outside = passed.outside.items in
-    let end = passed.end.items in
     let inside = c.go_round.new.noted in
-    λ states starts. search_passes g states candidate counting first_inside first_outside outside end first.faults place l inside c.in_ok-passage.passage starts
-    (subst (λ k. RoundKeeps g k counting first_inside first_outside first.faults outside end inside place l) c.as_slice.ensures.value c.in_ok-passed.ensures.keeps)
-    (subst (λ k. PartitionIsWithin g end k) c.as_slice-in-loop-round.ensures.value (c.is_inductive.ensures c.if-is_inductive.true))
-    (subst (λ k. IsJoined g k outside inside c.in_ok-passage.passage) c.as_slice-first.ensures.value c.in_ok-passage.ensures)
+    λ states starts. search_passes g states candidate counting first_inside first_outside passed.outside.items passed.end.items first.faults place l inside c.in_ok-passage.passage starts
+    c.in_ok-passed.ensures.keeps (c.is_inductive-is_found.ensures c.if-not-is_found.false)
+    (subst (λ k. IsJoined g k passed.outside.items inside c.in_ok-passage.passage) c.as_slice.ensures.value c.in_ok-passage.ensures)
+
+pub found_or_widest-returns-then-is_some : goal.found_or_widest-returns-then-is_some
+found_or_widest-returns-then-is_some t c = λ so. so
+
+pub found_or_widest-returns : goal.found_or_widest-returns
+found_or_widest-returns t c = λ so. c.in_ok-tried.ensures
+
+pub search-loop-round-init : goal.search-loop-round-init
+search-loop-round-init t c = tt
+
+pub search-loop-round-preserved-then-is_some : goal.search-loop-round-preserved-then-is_some
+search-loop-round-preserved-then-is_some t c = c.in_ok-try_candidate.ensures
+
+pub search-loop-round-preserved-else-is_some : goal.search-loop-round-preserved-else-is_some
+search-loop-round-preserved-else-is_some t c = c.loop-round.invariant
+
+pub search-returns-then-is_some : goal.search-returns-then-is_some
+search-returns-then-is_some t c = c.in_ok-try_candidate.ensures
 
 pub search_plainly-returns-in-Some : goal.search_plainly-returns-in-Some
 search_plainly-returns-in-Some t c = subst (λ o. IfSome o (λ (p : Passage). PassesOnceBegun c.args.context c.args.begun.now c.args.place c.args.repeated.now p)) c.in-Some.is c.in_ok-found.ensures
