@@ -59,10 +59,10 @@ fn add_trap(trap: &Trap, outcomes: &mut Outcomes) -> Result<(), AllocError> {
     Ok(())
 }
 
-/// What the analysis tells of the places of a program, if it tells anything.
+/// What the analysis tells of the places of a program.
 pub(crate) fn outcomes_of(
     alloc: Global,
-    traps: &Option<TrapList<'_>>,
+    traps: &TrapList<'_>,
     never: &[Note],
 ) -> Result<Outcomes, AllocError> {
     let mut outcomes = Outcomes {
@@ -70,10 +70,8 @@ pub(crate) fn outcomes_of(
         stopping: BTreeSet::new(alloc),
         mistyped: BTreeSet::new(alloc),
     };
-    if let Some(list) = traps {
-        for trap in list.traps.as_slice() {
-            add_trap(trap, &mut outcomes)?;
-        }
+    for trap in traps.traps.as_slice() {
+        add_trap(trap, &mut outcomes)?;
     }
     Ok(outcomes)
 }

@@ -4,7 +4,7 @@ use Rattle.ctd_lint_report.proofs.Common.{Place, TrapList, before_after, inl, in
 
 module _ {V P : Type 0} (tree_of : V → CommandList) (G : Ghosts P) (file : List ℕ) (setup : LintSetup) (old new : P) where
   -- a program that was loaded, its findings and its traps
-  pub reports_program : (plan : V) (found : List Finding) (trap_list : Option TrapList) → LoadsFrom tree_of G old new (Ok plan) → All (IsPlaced (places_of (tree_of plan))) found
+  pub reports_program : (plan : V) (found : List Finding) (trap_list : TrapList) → LoadsFrom tree_of G old new (Ok plan) → All (IsPlaced (places_of (tree_of plan))) found
       → All (IsTrueOfRuns (tree_of plan) setup.presets) found → AreTraps (tree_of plan) setup.presets trap_list → IsLintReport AreRemarks file setup (before_after G old new) (program_report file setup (remarks_of file setup found trap_list) trap_list)
   reports_program plan found trap_list l placed meant are =
       inl (record {

@@ -6,7 +6,7 @@ ghost use Rattle.ctd_report.specs.Report.{on_err};
 ghost use Rattle.ctd_report.specs.calls.Written.{Leaves};
 ghost use Rattle.ctd_report.specs.Written.{WritesOneOf, before_after};
 ghost use Rattle.ctd_lint_report.specs.calls.Reasons.{reason_of};
-ghost use Rattle.ctd_lint_report.specs.calls.Report.{AreRemarks, IsLintReport, findings_status, is_told, names_of, program_lines, program_report, program_status, remarks_of};
+ghost use Rattle.ctd_lint_report.specs.calls.Report.{AreRemarks, IsLintReport, findings_status, is_told, program_lines, program_report, program_status, remarks_of};
 ghost use Rattle.ctd_lint_report.specs.calls.Text.{kept, refusal_lines};
 ghost use Rattle.ctd_lint_report.specs.calls.Traps.{verdict_lines, verdict_status};
 
@@ -14,7 +14,7 @@ use crate::explanation::explanation;
 use crate::kind::{LintKind, is_ignored};
 use crate::setup::LintSetup;
 use crate::text::{findings_text, refusal_text};
-use crate::traps::{some_open, too_large_text, traps_text, write_verdict_line};
+use crate::traps::{some_open, traps_text, write_less_known, write_verdict_line};
 use crate::unclosed::unclosed_command;
 use ctd_findings::{Finding, Rank, findings};
 use ctd_loader::Plan;
@@ -44,13 +44,10 @@ fn status_of(found: &[Finding], ignored: &[LintKind]) -> u8
 }
 
 /// The status that `--verdicts` asks for.
-fn verdict_status(setup: &LintSetup, trap_list: &Option<TrapList<'_>>) -> u8
+fn verdict_status(setup: &LintSetup, trap_list: &TrapList<'_>) -> u8
     ensures { result ≡ verdict_status setup.now trap_list.now }
 {
-    let Some(list) = trap_list else {
-        return WARNINGS;
-    };
-    if some_open(list.traps.as_slice(), setup.ignored.as_slice()) {
+    if some_open(trap_list.traps.as_slice(), setup.ignored.as_slice()) {
         WARNINGS
     } else {
         NO_WARNINGS
@@ -62,7 +59,7 @@ fn program_status(
     file: &Bytes,
     setup: &LintSetup,
     found: &[Finding],
-    trap_list: &Option<TrapList<'_>>,
+    trap_list: &TrapList<'_>,
 ) -> u8
     ensures { result ≡ program_status setup.now (remarks_of file.now setup.now found.now trap_list.now) trap_list.now }
 {
@@ -79,15 +76,14 @@ fn verdict_text(
     file: &[u8],
     setup: &LintSetup,
     found: &[Finding],
-    trap_list: &Option<TrapList<'_>>,
+    trap_list: &TrapList<'_>,
 ) -> Result<Vec<u8>, AllocError>
-    ensures { IfOk result (λ text. text.items ≡ verdict_lines file.now setup.now (reason_of (names_of trap_list.now)) (is_told (kept setup.now.ignored.items found.now)) trap_list.now) }
+    ensures { IfOk result (λ text. text.items ≡ verdict_lines file.now setup.now (reason_of trap_list.now.names.items) (is_told (kept setup.now.ignored.items found.now)) trap_list.now) }
 {
-    let Some(list) = trap_list else {
-        return too_large_text(alloc, file);
-    };
-    let traps = list.traps.as_slice();
-    let mut text = traps_text(alloc, file, setup, found, list.names.as_slice(), traps)?;
+    let traps = trap_list.traps.as_slice();
+    let names = trap_list.names.as_slice();
+    let mut text = traps_text(alloc, file, setup, found, names, traps)?;
+    write_less_known(file, trap_list.less_known, &mut text)?;
     write_verdict_line(file, setup, traps, &mut text)?;
     Ok(text)
 }
@@ -98,7 +94,7 @@ fn program_text(
     setup: &LintSetup,
     file: &Bytes,
     found: &[Finding],
-    trap_list: &Option<TrapList<'_>>,
+    trap_list: &TrapList<'_>,
 ) -> Result<Vec<u8>, AllocError>
     ensures { IfOk result (λ text. text.items ≡ program_lines file.now setup.now (remarks_of file.now setup.now found.now trap_list.now) trap_list.now) }
 {
@@ -115,7 +111,7 @@ fn write_program<O: Sink, E: Sink>(
     setup: &LintSetup,
     file: &Bytes,
     found: &[Finding],
-    trap_list: &Option<TrapList<'_>>,
+    trap_list: &TrapList<'_>,
     out: &mut O,
     err: &mut E,
 ) -> Result<u8, ToolFault>

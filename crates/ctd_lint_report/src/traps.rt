@@ -6,7 +6,7 @@ ghost use Rattle.ctd_lint_report.specs.calls.Kinds.{is_unconditional, trap_name}
 ghost use Rattle.ctd_lint_report.specs.calls.Reasons.{reason_of};
 ghost use Rattle.ctd_lint_report.specs.calls.Report.{is_told, tells};
 ghost use Rattle.ctd_lint_report.specs.calls.Text.{kept};
-ghost use Rattle.ctd_lint_report.specs.calls.Traps.{condition_text, every_text, is_kind_shown, is_open, is_place_before, is_same_place, is_shown, kept_traps, places_behind, places_text, some_element, some_shape, some_unconditional, too_large_line, trap_line, traps_lines, verdict_line, verdict_text};
+ghost use Rattle.ctd_lint_report.specs.calls.Traps.{condition_text, every_text, is_kind_shown, is_open, is_place_before, is_same_place, is_shown, kept_traps, less_known_lines, places_behind, places_text, some_element, some_shape, some_unconditional, trap_line, traps_lines, verdict_line, verdict_text};
 
 use crate::kind::{
     LintKind, is_element, is_ignored, is_shape, is_told_kind, is_unconditional, trap_name,
@@ -226,13 +226,25 @@ pub(crate) fn write_verdict_line(
     text.extend_from_slice(b"\n")
 }
 
-/// The line that says that it cannot be told where a run may stop.
-pub(crate) fn too_large_text(alloc: Global, file: &[u8]) -> Result<Vec<u8>, AllocError>
-    ensures { IfOk result (λ text. text.items ≡ too_large_line file.now) }
+/// Appends the line of the command from which on less is known, behind the lines of risks, if there are any.
+pub(crate) fn write_less_known(
+    file: &[u8],
+    less_known: Option<Place>,
+    text: &mut Vec<u8>,
+) -> Result<(), AllocError>
+    ensures { OnOk result (text.new.items ≡ text.old.items ++ less_known_lines file.now text.old.items less_known) }
 {
-    let mut text = file.to_vec(alloc)?;
-    text.extend_from_slice(b": too large to tell\n")?;
-    Ok(text)
+    if text.is_empty() {
+        return Ok(());
+    }
+    let Some(place) = less_known else {
+        return Ok(());
+    };
+    text.extend_from_slice(file)?;
+    write_place(place, text)?;
+    text.extend_from_slice(
+        b": note: less is known from here on, since the program takes long to analyse\n",
+    )
 }
 
 /// Whether traps of a kind leave open whether each data file gets a verdict.

@@ -21,4 +21,5 @@ pub mod Unrolling
 pub mod Widening
 pub mod Knowing
 pub mod Ending
+pub mod Failing
 pub mod Joining

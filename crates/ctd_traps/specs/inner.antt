@@ -4,6 +4,7 @@ pub mod Joined
 pub mod Noted
 pub mod Knowing
 pub mod Absent
+pub mod Anything
 pub mod Triples
 pub mod PostFixpoint
 pub mod Sparing

@@ -1,6 +1,7 @@
 //! Where a run of a program may stop without a verdict, what never happens in its runs, and what is known of its variables.
 #![tactic(auto)]
 
+mod anything;
 mod block;
 mod budget;
 mod collector;

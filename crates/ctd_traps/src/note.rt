@@ -34,12 +34,14 @@ pub struct Note {
     pub kind: EventKind,
 }
 
-/// Where a run may stop, which other events it may have where, and in which states it may be there, if joined states are kept.
+/// Where a run may stop, which other events it may have where, in which states it may be there, if joined states are kept, and the first loop of which
+/// less is known, since it was walked with the widest candidate.
 #[derive(Drop)]
 pub(crate) struct Noted {
     pub(crate) traps: Vec<Trap>,
     pub(crate) events: Vec<Note>,
     pub(crate) joined: JoinedStates,
+    pub(crate) less_known: Option<Place>,
 }
 
 /// Nothing is noted.
@@ -48,6 +50,7 @@ pub(crate) fn nothing_noted(alloc: Global, with_states: bool) -> Noted {
         traps: Vec::new(alloc),
         events: Vec::new(alloc),
         joined: no_states(alloc, with_states),
+        less_known: None,
     }
 }
 
@@ -158,6 +161,11 @@ pub(crate) fn note_answers(
     Ok(())
 }
 
+/// The first of two places, as far as there are such.
+fn first_place(one: Option<Place>, other: Option<Place>) -> Option<Place> {
+    one.or(other)
+}
+
 /// Adds all that was noted in a part of a walk.
 pub(crate) fn note_all(context: Context, part: Noted, noted: &mut Noted) -> Result<(), Stop>
     ensures more { OnOk result (IsPart context.entry noted.old noted.new) }
@@ -166,5 +174,6 @@ pub(crate) fn note_all(context: Context, part: Noted, noted: &mut Noted) -> Resu
     noted.traps.extend_from_slice(part.traps.as_slice())?;
     noted.events.extend_from_slice(part.events.as_slice())?;
     add_part(context, part.joined, &mut noted.joined)?;
+    noted.less_known = first_place(noted.less_known, part.less_known);
     Ok(())
 }

@@ -1,6 +1,6 @@
 //! The traps of a program.
 
-ghost use Rattle.std.specs.Prelude.{ℕ, [], IfOk, IfSome, List, OnOk};
+ghost use Rattle.std.specs.Prelude.{◌≡◌, ℕ, [], IfOk, IfSome, List, None, OnOk};
 ghost use Rattle.ctd_program.specs.calls.View.{command_trees};
 ghost use Rattle.ctd_store.specs.Store.{Variables, value_of, with_pin};
 ghost use Rattle.ctd_store.specs.inner.Store.{pins_of};
@@ -13,6 +13,7 @@ ghost use Rattle.ctd_traps.specs.inner.Knowing.{IsAnalysis};
 ghost use Rattle.ctd_states.specs.calls.States.{MayBe, PinsStand, pins_in, named_values, entries_in};
 ghost use Rattle.std.specs.Borrow.{Bor};
 
+use crate::anything::all_traps;
 use crate::budget::whole_budget;
 use crate::joined::Moment;
 use crate::known::{END, Knowledge, knowledge_of};
@@ -105,13 +106,15 @@ fn pin_all(without: Context, presets: &[Preset]) -> Result<Vec<AbstractValue>, S
     Ok(entries)
 }
 
-/// The traps of a program, what never happens, what is known of the variables, if that was asked for, and the names to which traps and knowledge refer.
+/// The traps of a program, what never happens, what is known of the variables, if that was asked for, the names to which traps and knowledge refer, and
+/// the first command from which on less is known, since the program takes long to analyse.
 #[derive(Drop)]
 pub struct TrapList<'p> {
     pub traps: Vec<Trap>,
     pub never: Vec<Note>,
     pub knowledge: Option<Knowledge>,
     pub names: Vec<&'p [u8]>,
+    pub less_known: Option<Place>,
 }
 
 /// What is noted of a program, and what is known of its variables, if that is asked for.
@@ -175,18 +178,47 @@ fn analyze(
     Ok(Analysis { noted, knowledge })
 }
 
+/// The place of the first of some commands, if there is one.
+fn first_place(commands: &[Command]) -> Option<Place> {
+    match commands.first() {
+        Some(command) => Some(command.place),
+        None => None,
+    }
+}
+
+/// What is told of a program of which nothing is known: each fault that its commands can have.
+fn unknown<'p>(
+    alloc: Global,
+    commands: &'p [Command],
+    presets: &'p Presets,
+    names: Vec<&'p [u8]>,
+) -> Result<TrapList<'p>, AllocError>
+    ensures each { IfOk result (λ list. HasEachTrap (command_trees commands.now) presets.now (faults_of list.traps.items)) }
+    ensures never { IfOk result (λ list. NeverHappens (command_trees commands.now) presets.now (events_of list.never.items)) }
+    ensures nothing { IfOk result (λ list. list.knowledge ≡ None) }
+{
+    let traps = all_traps(alloc, commands)?;
+    Ok(TrapList {
+        traps,
+        never: Vec::new(alloc),
+        knowledge: None,
+        names,
+        less_known: first_place(commands),
+    })
+}
+
 /// The places at which a run of some commands may stop by a fault of a value, what never happens in a run, and, if it is asked for, what is known of
-/// the variables, whatever the data, the mode and the limit of steps; none where they are too large to tell. An error where memory ran out.
+/// the variables, whatever the data, the mode and the limit of steps. An error where memory ran out.
 pub fn traps<'p>(
     alloc: Global,
     commands: &'p [Command],
     presets: &'p Presets,
     with_knowledge: bool,
-) -> Result<Option<TrapList<'p>>, AllocError>
-    ensures each { IfOk result (λ answer. IfSome answer (λ list. HasEachTrap (command_trees commands.now) presets.now (faults_of list.traps.items))) }
-    ensures never { IfOk result (λ answer. IfSome answer (λ list. NeverHappens (command_trees commands.now) presets.now (events_of list.never.items))) }
-    ensures finds { IfOk result (λ answer. IfSome answer (λ list. IfSome list.knowledge (λ k. EachFinds (command_trees commands.now) presets.now list.names.items k.at_places.items))) }
-    ensures ends { IfOk result (λ answer. IfSome answer (λ list. IfSome list.knowledge (λ k. EachAcceptedHas (command_trees commands.now) presets.now list.names.items k.at_end))) }
+) -> Result<TrapList<'p>, AllocError>
+    ensures each { IfOk result (λ list. HasEachTrap (command_trees commands.now) presets.now (faults_of list.traps.items)) }
+    ensures never { IfOk result (λ list. NeverHappens (command_trees commands.now) presets.now (events_of list.never.items)) }
+    ensures finds { IfOk result (λ list. IfSome list.knowledge (λ k. EachFinds (command_trees commands.now) presets.now list.names.items k.at_places.items)) }
+    ensures ends { IfOk result (λ list. IfSome list.knowledge (λ k. EachAcceptedHas (command_trees commands.now) presets.now list.names.items k.at_end)) }
 {
     let Mentioned { names, pairs } = mentioned_in(alloc, commands, presets)?;
     match analyze(
@@ -199,18 +231,24 @@ pub fn traps<'p>(
     ) {
         Ok(analysis) => {
             let Analysis { noted, knowledge } = analysis;
-            let Noted { traps, events, .. } = noted;
+            let Noted {
+                traps,
+                events,
+                less_known,
+                ..
+            } = noted;
             let traps = in_text_order(traps)?;
             let never = absent_in(alloc, commands, events.as_slice())?;
-            Ok(Some(TrapList {
+            Ok(TrapList {
                 traps,
                 never,
                 knowledge,
                 names,
-            }))
+                less_known,
+            })
         }
         Err(Stop::Memory) => Err(AllocError),
-        Err(Stop::GaveUp) => Ok(None),
+        Err(Stop::GaveUp) => unknown(alloc, commands, presets, names),
     }
 }
 

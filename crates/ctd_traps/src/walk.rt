@@ -267,7 +267,7 @@ fn unroll(
     Ok(None)
 }
 
-/// Tries a candidate for the states before each turn but the first.
+/// Tries a candidate for the states before each turn but the first. Where it is the widest one, less is known of the loop.
 #[cycle(walk)]
 fn try_candidate(
     repeated: &Loop,
@@ -275,11 +275,13 @@ fn try_candidate(
     context: Context,
     begun: &LoopStart,
     candidate: &[State],
+    less_known: Option<Place>,
     budget: &mut Budget,
 ) -> Result<Tried, Stop>
     ensures { IfOk result (λ tried. IfSome tried.passage (λ p. PassesOnceBegun context.entry begun.now place repeated.now p)) }
 {
     let mut inside = nothing_noted(context.alloc, budget.with_states);
+    inside.less_known = less_known;
     let passed = go_round(
         repeated,
         place,
@@ -317,7 +319,15 @@ fn found_or_widest(
         return Ok(found);
     }
     let widest = widest_candidate(context)?;
-    let tried = try_candidate(repeated, place, context, begun, widest.as_slice(), budget)?;
+    let tried = try_candidate(
+        repeated,
+        place,
+        context,
+        begun,
+        widest.as_slice(),
+        Some(place),
+        budget,
+    )?;
     Ok(tried.passage)
 }
 
@@ -345,6 +355,7 @@ fn search(
             context,
             begun,
             candidate.as_slice(),
+            None,
             budget,
         )?;
         if passage.is_some() {

@@ -1,6 +1,6 @@
 -- What ctd-lint writes of a program.
 use Rattle.ctd_findings.specs.declared.kind.Rank.TheVariants as ranks
-use Rattle.std.specs.Prelude.{◌≡◌, ◌⊎◌, ◌+◌, ◌≤◌, ◌++◌, ◌&&◌, ℕ, Bool, List, [], ◌∷◌, All, length, max, Option, Some, None, if◌then◌else◌}
+use Rattle.std.specs.Prelude.{◌≡◌, ◌⊎◌, ◌+◌, ◌≤◌, ◌++◌, ◌&&◌, ℕ, Bool, List, [], ◌∷◌, All, length, max, Option, if◌then◌else◌}
 use Rattle.ctd_lint_report.specs.Prelude.{BeforeAfter, Bor, CommandList, Finding, GaveBytes, Ghosts, IsPlaced, IsTrueOfRuns, LintSetup, LoadFault, Loads, MayFail, PROGRAM_LIMIT, Place, Rank, Report}
 use Rattle.ctd_lint_report.specs.Prelude.{Trap, TrapList, kind_row, list_any, on_err, on_out, places_of}
 use Rattle.ctd_lint_report.specs.calls.Kinds.{is_told_kind}
@@ -17,18 +17,18 @@ pub record Remarks : Type 0 where
 
 -- which remarks a report may have on a program in a file, whose traps are told
 abbrev pub Remarking : Type 1
-Remarking = List ℕ → LintSetup → CommandList → Option TrapList → Remarks → Type 0
+Remarking = List ℕ → LintSetup → CommandList → TrapList → Remarks → Type 0
 
 -- the remarks, then the traps, and then the line that tells of verdicts, if it is asked for
-abbrev pub program_lines : List ℕ → LintSetup → Remarks → Option TrapList → List ℕ
+abbrev pub program_lines : List ℕ → LintSetup → Remarks → TrapList → List ℕ
 program_lines file setup remarks trap_list = remarks.lines ++ verdict_lines file setup remarks.reason remarks.told trap_list
 
 -- the status: that of the remarks, and where verdicts are asked for the greater of it and theirs
-abbrev pub program_status : LintSetup → Remarks → Option TrapList → ℕ
+abbrev pub program_status : LintSetup → Remarks → TrapList → ℕ
 program_status setup remarks trap_list = if setup.verdicts then max remarks.status (verdict_status setup trap_list) else remarks.status
 
 -- the report on a program in a file
-abbrev pub program_report : List ℕ → LintSetup → Remarks → Option TrapList → Report
+abbrev pub program_report : List ℕ → LintSetup → Remarks → TrapList → Report
 program_report file setup remarks trap_list = on_out (program_lines file setup remarks trap_list) (program_status setup remarks trap_list)
 
 -- The source gave the text of a program, and the report is that of all the program's traps, with such remarks.
@@ -37,7 +37,7 @@ pub record ReportsProgram {P : Type 0} {G : Ghosts P} (IsRemark : Remarking) (fi
   pub text : List ℕ
   pub gave_text : GaveBytes G program.old program.new text
   pub loads : Loads text (G.seen program.new) tree
-  pub trap_list : Option TrapList
+  pub trap_list : TrapList
   pub traps : AreTraps tree setup.presets trap_list
   pub remarks : Remarks
   pub remarked : IsRemark file setup tree trap_list remarks
@@ -76,22 +76,17 @@ tells f t = is_same_place f.place t.place && is_told_kind f.remark.kind t.kind
 abbrev pub is_told : List Finding → Trap → Bool
 is_told found t = list_any (λ f. tells f t) found
 
--- the names to which traps refer
-abbrev pub names_of : Option TrapList → List (Bor (List ℕ))
-names_of None = []
-names_of (Some list) = list.names.items
-
 -- the remarks of some findings, but for those that are left out
-abbrev pub remarks_of : List ℕ → LintSetup → List Finding → Option TrapList → Remarks
+abbrev pub remarks_of : List ℕ → LintSetup → List Finding → TrapList → Remarks
 remarks_of file setup found trap_list = record {
   lines = findings_lines file (kept setup.ignored.items found);
   status = findings_status (kept setup.ignored.items found);
   told = is_told (kept setup.ignored.items found);
-  reason = reason_of (names_of trap_list);
+  reason = reason_of trap_list.names.items;
 }
 
 -- the remarks are those of some findings, each of which has the place of a command, and is so in all runs if it says something of them
-pub record AreRemarks (file : List ℕ) (setup : LintSetup) (program : CommandList) (trap_list : Option TrapList) (remarks : Remarks) : Type 0 where
+pub record AreRemarks (file : List ℕ) (setup : LintSetup) (program : CommandList) (trap_list : TrapList) (remarks : Remarks) : Type 0 where
   pub found : List Finding
   pub placed : All (IsPlaced (places_of program)) found
   pub meant : All (IsTrueOfRuns program setup.presets) found

@@ -1,11 +1,11 @@
 -- The lines of traps, and the line that tells of verdicts.
-use Rattle.std.specs.Prelude.{ℕ, Bool, true, false, not, ◌||◌, ◌&&◌, ◌+◌, List, [], ◌∷◌, ◌++◌, codes, Option, Some, None, IfSome, if◌then◌else◌, nat_eq}
+use Rattle.std.specs.Prelude.{ℕ, Bool, true, false, not, ◌||◌, ◌&&◌, ◌+◌, List, [], ◌∷◌, ◌++◌, codes, Option, Some, None, if◌then◌else◌, nat_eq}
 use Rattle.ctd_lint_report.specs.Prelude.{CommandList, HasEachTrap, LintKind, LintSetup, Place, Preset, Trap, TrapKind, TrapList, decimal, faults_of, list_any}
 use Rattle.ctd_lint_report.specs.calls.Kinds.{is_element, is_ignored, is_shape, is_unconditional, trap_name, trap_text}
 
--- These are all places at which a run of a program may stop by a fault of a value, if they are told.
-abbrev pub AreTraps : CommandList → List Preset → Option TrapList → Type 0
-AreTraps program presets trap_list = IfSome trap_list (λ list. HasEachTrap program presets (faults_of list.traps.items))
+-- These are all places at which a run of a program may stop by a fault of a value.
+abbrev pub AreTraps : CommandList → List Preset → TrapList → Type 0
+AreTraps program presets trap_list = HasEachTrap program presets (faults_of trap_list.traps.items)
 
 -- whether two places are the same
 abbrev pub is_same_place : Place → Place → Bool
@@ -82,21 +82,25 @@ verdict_text traps = if some_unconditional traps then places_text (places_behind
 abbrev pub verdict_line : List ℕ → List Trap → List ℕ
 verdict_line file traps = file ++ codes ": " ++ verdict_text traps ++ codes "\n"
 
--- the line where it cannot be told
-abbrev pub too_large_line : List ℕ → List ℕ
-too_large_line file = file ++ codes ": too large to tell\n"
+-- the line of the command from which on less is known, behind the lines of risks, if there are any
+abbrev pub less_known_lines : List ℕ → List ℕ → Option Place → List ℕ
+less_known_lines file [] less_known = []
+less_known_lines file (b ∷ risks) None = []
+less_known_lines file (b ∷ risks) (Some p) = file ++ place_text p ++ codes ": note: less is known from here on, since the program takes long to analyse\n"
 
--- what is written of the traps of a program: a line for each that is shown, and the last line, if it is asked for; or that they cannot be told
-abbrev pub verdict_lines : List ℕ → LintSetup → (Trap → List ℕ) → (Trap → Bool) → Option TrapList → List ℕ
-verdict_lines file setup reason told None = too_large_line file
-verdict_lines file setup reason told (Some list) =
-    traps_lines file reason (kept_traps setup told list.traps.items) ++ (if setup.verdicts then verdict_line file list.traps.items else [])
+-- the lines of risks, and what they lead to
+abbrev pub with_less_known : List ℕ → Option Place → List ℕ → List ℕ
+with_less_known file less_known risks = risks ++ less_known_lines file risks less_known
+
+-- what is written of the traps of a program: a line for each that is shown, the command from which on less is known, and the last line, if it is asked for
+abbrev pub verdict_lines : List ℕ → LintSetup → (Trap → List ℕ) → (Trap → Bool) → TrapList → List ℕ
+verdict_lines file setup reason told list =
+    with_less_known file list.less_known (traps_lines file reason (kept_traps setup told list.traps.items)) ++ (if setup.verdicts then verdict_line file list.traps.items else [])
 
 -- whether traps of a kind leave open whether each data file gets a verdict: not where they are of elements or arrays, and --ignore accepts them
 abbrev pub is_open : List LintKind → TrapKind → Bool
 is_open ignored kind = is_unconditional kind || not (is_ignored ignored (trap_name kind))
 
 -- the status that --verdicts asks for: 0 where each data file gets a verdict, be it under conditions that --ignore accepts, else 1
-abbrev pub verdict_status : LintSetup → Option TrapList → ℕ
-verdict_status setup None = 1
-verdict_status setup (Some list) = if list_any (λ t. is_open setup.ignored.items t.kind) list.traps.items then 1 else 0
+abbrev pub verdict_status : LintSetup → TrapList → ℕ
+verdict_status setup list = if list_any (λ t. is_open setup.ignored.items t.kind) list.traps.items then 1 else 0
