@@ -358,7 +358,7 @@ echo "not a finding"; exit 1"""
         self.assertEqual(self.findings(script, text), [(2, "the program does not mention: x", "unknown-preset", span(0, 15, 16))])
 
     def test_of_the_whole_program(self) -> None:
-        self.assertEqual(self.findings('echo "$program: too large to tell"', "SPACE\nSPACE"), [(3, "too large to tell", "", span(0, 0, 5))])
+        self.assertEqual(self.findings('echo "$program: every data file gets a verdict"', "SPACE\nSPACE"), [(3, "every data file gets a verdict", "", span(0, 0, 5))])
 
     def test_a_linter_that_fails(self) -> None:
         for script, told in [("echo out of memory >&2; exit 2", "out of memory"), ("exit 139", "ended with status 139")]:
