@@ -11,11 +11,15 @@ use Rattle.ctd_outcome.specs.declared.reason.Fault.TheVariants as faults
 use Rattle.ctd_store.specs.declared.value.Value.TheVariants as values
 use Rattle.ctd_traps.specs.calls.Events as happenings
 use Rattle.ctd_traps.specs.declared.joined.Moment.TheVariants as moments
-use Rattle.ctd_traps.specs.inner.Anything.{AreAllListed, IsListed, of_expressions, of_loops, of_nothing, of_tests}
+use Rattle.ctd_traps.specs.inner.Anything.{AreAllListed, AreAmong, IsListed, of_expressions, of_loops, of_nothing, of_tests}
 use Rattle.ctd_transfer.proofs.Fits.{end_fits, integer_fits, leading_fits, match_fits, newline_fits, space_fits}
 use Rattle.ctd_value.proofs.Ordinary.{FailsWith, IsOfTest, IsOrdinary, key_is_ordinary, number_is_ordinary, text_is_ordinary, truth_is, value_is}
 use Rattle.ctd_traps.proofs.Leading.{choice_leads, list_leads, loop_leads, none_leads, safe_without_steps, simple_is_safe, start_leads, StartsSafe}
+use Rattle.ctd_traps.proofs.Common.{ArePart, ap, at_drop_more, command_tree, drop, drop_all, get_or, sym, ◌<◌, ◌∙◌, ◌≤◌, ◌⊎◌}
+use Rattle.ctd_traps.proofs.Absent.{first_or_rest, none_in}
 use Rattle.ctd_traps.proofs.Reaching.{events_follow}
+use Rattle.ctd_traps.specs.calls.Commands.{trees_of}
+use Rattle.ctd_traps.specs.declared.block.CommandInBlock.{CommandInBlock}
 use Rattle.ctd_traps.proofs.Whole.{traps_noted}
 
 -- an effect has no faults but these
@@ -149,6 +153,46 @@ going_fails (while_true t) k d s = lift_fails of_loops (truth t s.store d s.offs
 turn_fails : (loop : Started) (k : ℕ) (d : TestData) (s : State) → FailsIn of_loops (take_turn loop k d s)
 turn_fails loop k d s = next_fails of_loops (keep loop.counter (values.Int (pos k)) d s) (λ _ t. goes_on loop.guard k d t) (keep_fails of_loops in_loops loop.counter (values.Int (pos k)) d s) (λ _ t. going_fails loop.guard k d t)
 
+-- faults, by those that they are made of
+pub made_of_nothing : (e : Faults) → AreAmong of_expressions (record { no_value = true; no_element = true; wrong_type = true; overflow = true; division_by_zero = true; exponent = true; count = e.count; shape = e.shape; blame = e.blame })
+made_of_nothing e faults.Undefined among = inl refl
+made_of_nothing e faults.WrongType among = refl
+made_of_nothing e faults.Overflow among = refl
+made_of_nothing e faults.DivisionByZero among = refl
+made_of_nothing e faults.Exponent among = refl
+made_of_nothing e faults.Count among = absurd (cc among)
+made_of_nothing e faults.Shape among = absurd (cc among)
+made_of_nothing e faults.StepLimit among = tt
+made_of_nothing e faults.MatchTooLong among = tt
+made_of_nothing e faults.DataTooLong among = tt
+made_of_nothing e faults.Read among = tt
+
+pub made_of_expressions : (e : Faults) → AreAmong of_expressions e → AreAmong of_tests (record { no_value = e.no_value; no_element = e.no_element; wrong_type = e.wrong_type; overflow = e.overflow; division_by_zero = e.division_by_zero; exponent = e.exponent; count = e.count; shape = true; blame = e.blame })
+made_of_expressions e are faults.Undefined among = are faults.Undefined among
+made_of_expressions e are faults.WrongType among = are faults.WrongType among
+made_of_expressions e are faults.Overflow among = are faults.Overflow among
+made_of_expressions e are faults.DivisionByZero among = are faults.DivisionByZero among
+made_of_expressions e are faults.Exponent among = are faults.Exponent among
+made_of_expressions e are faults.Count among = absurd (cc among)
+made_of_expressions e are faults.Shape among = refl
+made_of_expressions e are faults.StepLimit among = are faults.StepLimit among
+made_of_expressions e are faults.MatchTooLong among = are faults.MatchTooLong among
+made_of_expressions e are faults.DataTooLong among = are faults.DataTooLong among
+made_of_expressions e are faults.Read among = are faults.Read among
+
+pub made_of_tests : (e : Faults) → AreAmong of_tests e → AreAmong of_loops (record { no_value = e.no_value; no_element = e.no_element; wrong_type = e.wrong_type; overflow = e.overflow; division_by_zero = e.division_by_zero; exponent = e.exponent; count = true; shape = e.shape; blame = e.blame })
+made_of_tests e are faults.Undefined among = are faults.Undefined among
+made_of_tests e are faults.WrongType among = are faults.WrongType among
+made_of_tests e are faults.Overflow among = are faults.Overflow among
+made_of_tests e are faults.DivisionByZero among = are faults.DivisionByZero among
+made_of_tests e are faults.Exponent among = are faults.Exponent among
+made_of_tests e are faults.Count among = refl
+made_of_tests e are faults.Shape among = are faults.Shape among
+made_of_tests e are faults.StepLimit among = are faults.StepLimit among
+made_of_tests e are faults.MatchTooLong among = are faults.MatchTooLong among
+made_of_tests e are faults.DataTooLong among = are faults.DataTooLong among
+made_of_tests e are faults.Read among = are faults.Read among
+
 -- the events: of faults those that are listed, and all others
 abbrev faults_in : List PlacedFault → Events
 faults_in traps place happenings.begins = Unit {0}
@@ -241,3 +285,29 @@ pub anything_is_listed : (program : CommandList) (presets : List Preset) (traps 
 anything_is_listed program presets traps all =
     traps_noted program presets (faults_in traps) traps (λ place fault has. has)
     (events_follow program presets (faults_in traps) anywhere anywhere (λ mode d n s less skipped. tt) (λ d. list_goes traps d program all) (λ n s here. tt))
+
+-- commands from their front: the traps of each are listed, or it is one of the rest
+abbrev pub LeftOrListed : List PlacedFault → (left whole : List CommandInBlock) → Type 0
+LeftOrListed traps left whole = (c : CommandTree) → Contains (trees_of whole) c → Contains (trees_of left) c ⊎ IsListed traps c
+
+first_listed : (traps : List PlacedFault) (x : CommandTree) (rest : List CommandTree) (c : CommandTree) → IsListed traps x → (x ≡ c) ⊎ Contains rest c → Contains rest c ⊎ IsListed traps c
+first_listed traps x rest c own (inl same) = inr (subst (IsListed traps) same own)
+first_listed traps x rest c own (inr has) = inl has
+
+next_listed : (old new : List PlacedFault) (x : CommandTree) (rest : List CommandTree) (c : CommandTree) → ArePart old new → IsListed new x → Contains (x ∷ rest) c ⊎ IsListed old c → Contains rest c ⊎ IsListed new c
+next_listed old new x rest c more own (inl has) = first_listed new x rest c own (first_or_rest x rest c has)
+next_listed old new x rest c more own (inr listed) = inr (λ why of_value among. more (record { place = place_of c; fault = why }) (listed why of_value among))
+
+pub listed_step : (old new : List PlacedFault) (entries : List CommandInBlock) (i : ℕ) (e : CommandInBlock) → i < length entries → e ≡ get_or entries i e → ArePart old new → IsListed new (command_tree e.command.now)
+    → LeftOrListed old (drop i entries) entries → LeftOrListed new (drop (i + 1) entries) entries
+listed_step old new entries i e inside is more own so_far c has =
+    let rest : List CommandTree = trees_of (drop (i + 1) entries) in
+    let next : trees_of (drop i entries) ≡ command_tree e.command.now ∷ rest = at_drop_more trees_of entries i e inside ∙ ap (λ (x : CommandInBlock). command_tree x.command.now ∷ rest) (sym is) in
+    next_listed old new (command_tree e.command.now) rest c more own (subst (λ l. Contains l c ⊎ IsListed old c) next (so_far c has))
+
+listed_or_none : (traps : List PlacedFault) (c : CommandTree) → Contains [] c ⊎ IsListed traps c → IsListed traps c
+listed_or_none traps c (inl none) = absurd (none_in c none)
+listed_or_none traps c (inr listed) = listed
+
+pub listed_done : (traps : List PlacedFault) (entries : List CommandInBlock) (i : ℕ) → length entries ≤ i → LeftOrListed traps (drop i entries) entries → AreAllListed traps (trees_of entries)
+listed_done traps entries i all so_far c has = listed_or_none traps c (subst (λ l. Contains (trees_of l) c ⊎ IsListed traps c) (drop_all i entries all) (so_far c has))

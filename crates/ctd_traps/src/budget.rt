@@ -5,10 +5,10 @@ use ctd_program::{Action, Command};
 use ctd_states::Stop;
 
 /// What the steps of a walk may cost, by the cost of a name in a state: about a second.
-const STEPS: u64 = 4_000_000;
+const STEPS: u64 = 3_000_000;
 
 /// What one pass may cost once these steps are spent: about a second more.
-const LAST_STEPS: u64 = 8_000_000;
+const LAST_STEPS: u64 = 4_000_000;
 
 /// What a step costs in any case.
 const STEP: u64 = 4;

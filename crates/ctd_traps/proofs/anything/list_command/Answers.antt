@@ -14,6 +14,6 @@ returns c =
           let here : PlacedFault = record { place = place_of (command_tree c.args.command.now); fault = why } in
           part_right old own new grown here
           (subst (λ l. Contains (faults_of l) here) (sym c.as_slice.ensures.value)
-          (subst (λ p. Contains (faults_of c.report.new.traps.items) (record { place = p; fault = why })) (place_is c.args.command.now)
+          (subst (λ p. Contains (faults_of c.report.new.traps.items) (record { place = p; fault = why })) (sym (place_is c.args.command.now.action c.args.command.now.place))
           (c.in_ok-report.ensures.listed why of_value (c.possible_faults.ensures why among))));
     }

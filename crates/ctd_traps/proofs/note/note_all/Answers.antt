@@ -8,7 +8,7 @@ returns c =
     let g = c.args.context in
     let part : Noted = c.args.part in
     let old : Noted = c.args.noted.now in
-    let new : Noted = record { traps = c.extend_from_slice.new.self; events = c.extend_from_slice-2.new.self; joined = c.add_part.new.joined; less_known = c.first_place.result } in
+    let new : Noted = record { traps = c.extend_from_slice.new.self; events = c.extend_from_slice-2.new.self; joined = c.add_part.new.joined; less_known = c.first_place-noted.result } in
     let traps = c.as_slice.result.now in
     let events = c.as_slice-2.result.now in
     let found = c.in_ok-extend_from_slice.ensures.items in
