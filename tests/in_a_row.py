@@ -1,6 +1,6 @@
 #!/usr/bin/env python3
-"""Lets the built ctd-lint read programs that are made of 1 to 12 of the examples' own programs in a row, with names of their own. None is given up: no
-line says that less is known of it.
+"""Lets the built ctd-lint read programs that are made of 1 to 12 of the examples' own programs in a row, with names of their own. Each gets a line on
+verdicts, and of up to 8 in a row no line says that less is known.
 
 The last line counts what passed and failed. usage: tests/in_a_row.py [CHECKER LINTER]"""
 from __future__ import annotations
@@ -17,8 +17,10 @@ from results import TOP, linter_to_test, print_results
 
 SEED = 1
 MOST = 12
+WHOLLY_KNOWN = 8
 EACH = 8
 LESS_KNOWN = ": note: less is known from here on"
+VERDICTS = re.compile(r".*: (?:every data file gets a verdict|places that may stop a run without a verdict: at most )[^:]*")
 
 # A string, a comment, or a name. Words of the language have capital letters.
 TOKEN = re.compile(r'"(?:[^"\\]|\\.)*"|#[^\n]*|[a-z][a-z0-9]*', re.DOTALL)
@@ -43,14 +45,15 @@ def in_a_row(programs: Sequence[Path]) -> str:
     return "\n".join(renamed(path.read_text(), number) for number, path in enumerate(programs))
 
 
-def faults(linter: Path, program: Path) -> Iterator[str]:
-    """How ctd-lint gives a program up."""
+def faults(linter: Path, program: Path, length: int) -> Iterator[str]:
+    """How ctd-lint gives up a program that is made of so many."""
     run = subprocess.run([linter, "--verdicts", program], capture_output=True, text=True, check=False)
     if run.returncode not in (0, 1):
         yield f"the status is {run.returncode}: {run.stderr.strip()}"
-    for line in run.stdout.splitlines():
-        if LESS_KNOWN in line:
-            yield line
+    lines = run.stdout.splitlines()
+    if not any(VERDICTS.fullmatch(line) for line in lines[-1:]):
+        yield "nothing is said of verdicts"
+    yield from (line for line in lines if LESS_KNOWN in line and length <= WHOLLY_KNOWN)
 
 
 def results(linter: Path) -> Iterator[tuple[str, list[str]]]:
@@ -62,7 +65,7 @@ def results(linter: Path) -> Iterator[tuple[str, list[str]]]:
             for _ in range(EACH):
                 row = chosen.sample(programs, min(length, len(programs)))
                 path.write_text(in_a_row(row))
-                yield ", ".join(part.stem for part in row), list(faults(linter, path))
+                yield ", ".join(part.stem for part in row), list(faults(linter, path, len(row)))
 
 
 if __name__ == "__main__":
