@@ -107,7 +107,7 @@ pub use Rattle.ctd_traps.specs.inner.Holds.{AreListed, ArePart, Holds, PinsAreIn
 pub use Rattle.ctd_traps.specs.inner.Joined.{AreWithin, Describes, IsAdded, IsFound, IsOf, IsWithin, OneDescribes}
 pub use Rattle.ctd_traps.specs.inner.Listed.{trees_in}
 pub use Rattle.ctd_traps.specs.inner.Noted.{AreNoted, BeginsBy, BegunIn, FoundIn, IsPart, NotedIn, noted_in}
-pub use Rattle.ctd_traps.specs.inner.Passages.{BegunFrom, IsJoined, IsOneOf, IsSameOrNone, Passes, PassesOnceBegun}
+pub use Rattle.ctd_traps.specs.inner.Passages.{BegunFrom, IsEither, IsJoined, IsOneOf, IsSameOrNone, Passes, PassesOnceBegun}
 pub use Rattle.ctd_traps.specs.inner.PostFixpoint.{Candidate, InTurn, IsPostFixpoint}
 pub use Rattle.ctd_traps.specs.inner.Sparing.{Spares, SparesAll, SparesBetween, SparesEach, SparesLoop, SparesNames, SparesTarget, SparesTurns, SparesVariable}
 pub use Rattle.ctd_traps.specs.inner.Triples.{Before, CommandLeads, GoesOn, Leads, Leaves, LoopLeads, Safe, Splits, TurnLeads}

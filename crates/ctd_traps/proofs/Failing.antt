@@ -37,8 +37,8 @@ next_fails f (rejected reason consumed) next first second = tt
 next_fails f (faulty fault consumed) next first second = first
 
 lift_fails : {A : Type 0} (f : Faults) (r : Result A Fault) (s : State) → FailsBy f r → FailsIn f (lift r s)
-lift_fails f (Ok x) s fails = tt
-lift_fails f (Err why) s fails = fails
+lift_fails f (Ok x) s by = tt
+lift_fails f (Err why) s by = by
 
 -- expressions and tests
 by_expression : {X : Type 0} (f : Faults) (r : Result X Fault) → ((why : Fault) → IsAmong of_expressions why → IsAmong f why) → IsOrdinary r → FailsBy f r

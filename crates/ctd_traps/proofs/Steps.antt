@@ -1,7 +1,7 @@
 -- The commands of the code, one by one.
 use Rattle.ctd_traps.proofs.Common.{AbstractState, Action, BeginsLater, BegunFrom, BegunIn, Box, Choice, Command, Context, Counting, Faults, Guard, IsBegun, IsGuard, IsJoined, IsPart, List, LoopStart, Noted, NotedIn, PartitionIsWithin}
 use Rattle.ctd_traps.proofs.Common.{Passage, Passes, Place, RoundKeeps, Spares, SparesLoop, StepKeeps, WalkKeeps, action_tree, answers, ap, at_drop_more, Bindings, choice_at, choice_tree, command_tree, command_trees, drop, drop_all, false}
-use Rattle.ctd_traps.proofs.Common.{get_or, guard_tree, IfOk, IfSome, inl, inr, IsOneOf, IsSameOrNone, None, Option, PassesOnceBegun, Result, Some, Stop, length, loop_at, loop_tree, noted_in, out-Loop, started_of, subst, sym, true, ℕ, ◌+◌, ◌<◌, ◌∙◌, ◌≡◌, ◌≤◌}
+use Rattle.ctd_traps.proofs.Common.{get_or, guard_tree, IfOk, IfSome, inl, inr, IsEither, IsOneOf, IsSameOrNone, None, Option, PassesOnceBegun, Result, Some, Stop, length, loop_at, loop_tree, noted_in, out-Loop, started_of, subst, sym, true, ℕ, ◌+◌, ◌<◌, ◌∙◌, ◌≡◌, ◌≤◌}
 use Rattle.ctd_program.specs.Tree
 use Rattle.ctd_program.specs.declared.tree.Action.TheVariants as actions
 use Rattle.ctd_program.specs.declared.tree.Loop.{Loop}
@@ -115,3 +115,8 @@ same_or_none found answer P (inr is) so = subst (λ r. IfOk r (λ a. IfSome a P)
 pub begun_passes : (g : Context) (states : List AbstractState) (begun : LoopStart) (place : Place) (l : Loop) (o : Option Passage) → BegunFrom g states begun l → IfSome o (λ p. PassesOnceBegun g begun place l p) → IfSome o (λ p. Passes g states begun.counting place l p)
 begun_passes g states begun place l None starts so = tt
 begun_passes g states begun place l (Some p) starts so = so states starts
+
+-- the later of two passages
+pub later_passes : (one other later : Option Passage) (P : Passage → Type 0) → IsEither one other later → IfSome one P → IfSome other P → IfSome later P
+later_passes one other later P (inl is) first second = subst (λ o. IfSome o P) (sym is) first
+later_passes one other later P (inr is) first second = subst (λ o. IfSome o P) (sym is) second

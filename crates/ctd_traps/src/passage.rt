@@ -8,7 +8,7 @@ ghost use Rattle.ctd_states.specs.declared.assign.Context.{Context};
 ghost use Rattle.ctd_store.specs.Store.{Bindings};
 ghost use Rattle.ctd_traps.specs.calls.Events.{goes_on};
 ghost use Rattle.ctd_traps.specs.inner.Noted.{BegunIn, IsPart, NotedIn};
-ghost use Rattle.ctd_traps.specs.inner.Passages.{IsJoined, IsOneOf, IsSameOrNone};
+ghost use Rattle.ctd_traps.specs.inner.Passages.{IsEither, IsJoined, IsOneOf, IsSameOrNone};
 ghost use Rattle.ctd_traps.specs.inner.Walk.{BeginsLater, IsGuard};
 
 use crate::joined::Moment;
@@ -17,7 +17,7 @@ use crate::note::{
 };
 use crate::start::{Turns, may_start};
 use crate::turn::{LoopEntry, LoopStart, Phase, enter};
-use ctd_partitions::{State, are_within, join_partitions};
+use ctd_partitions::{State, are_within, join_partitions, widen_partition};
 use ctd_program::{Loop, LoopGuard};
 use ctd_states::{Context, Stop, union};
 use ctd_token::Place;
@@ -139,4 +139,34 @@ pub(crate) fn none_if_given_up(
         Err(Stop::GaveUp) => Ok(None),
         _ => found,
     }
+}
+
+/// The later of two passages, if there are any.
+pub(crate) fn later_of(found: Option<Passage>, passage: Option<Passage>) -> Option<Passage>
+    ensures { IsEither found passage result }
+{
+    if passage.is_some() { passage } else { found }
+}
+
+/// From which round on a candidate was widened. Once it is inductive, it is narrowed to the states at the end of a turn.
+const WIDENED: usize = 3;
+
+/// Whether a candidate that was tried is the last one: an inductive one that was not widened, or narrowed after another was found.
+pub(crate) fn is_enough(tried: &Tried, found: &Option<Passage>, round: usize) -> bool {
+    tried.passage.is_some() && (found.is_some() || round < WIDENED)
+}
+
+/// The next candidate: the states at the end of a turn where the last one was inductive, and else a wider one. No contract speaks of it: it is checked
+/// where it is used.
+pub(crate) fn next_candidate(
+    context: Context,
+    candidate: &[State],
+    tried: &Tried,
+    round: usize,
+) -> Result<Vec<State>, Stop> {
+    let end = tried.end.as_slice();
+    if tried.passage.is_some() {
+        return join_partitions(context, Vec::new(context.alloc), end);
+    }
+    widen_partition(context, candidate, end, round)
 }

@@ -12,8 +12,8 @@ ghost use Rattle.ctd_traps.specs.inner.Walk.{RoundKeeps, SeparatorKeeps, StepKee
 use crate::budget::{Budget, is_spent, may_try, part_of, pay, pay_part, pay_round, pay_turn};
 use crate::note::{Noted, note_all, note_faults, nothing_noted};
 use crate::passage::{
-    Passage, Round, Tried, begin_later, is_inductive, join_outside, none_if_given_up, note_start,
-    with_fewer_traps,
+    Passage, Round, Tried, begin_later, is_enough, is_inductive, join_outside, later_of,
+    next_candidate, none_if_given_up, note_start, with_fewer_traps,
 };
 use crate::simple::{ask_branches, assert, join_branches, take};
 use crate::turn::{Counting, LoopStart, begin};
@@ -21,16 +21,13 @@ use crate::unroll::{
     TURNS, begin_turn, facts_allowed, has_few_turns, has_inner_loop, have_few_facts, is_plain,
 };
 use crate::widest::{widest_candidate, without_facts};
-use ctd_partitions::{State, join_partitions, widen_partition};
+use ctd_partitions::{State, join_partitions};
 use ctd_program::{Action, Choice, Command, Commands, Loop};
 use ctd_states::{Context, Stop};
 use ctd_token::Place;
 
 /// How many candidates for the invariant of a loop are tried.
 const ROUNDS: usize = 14;
-
-/// From which round on a candidate was widened. Once it is inductive, it is narrowed to the states at the end of a turn.
-const WIDENED: usize = 3;
 
 /// The states behind some commands.
 #[cycle(walk)]
@@ -349,7 +346,7 @@ fn search(
         if is_spent(budget) {
             return found_or_widest(found, repeated, place, context, begun, budget);
         }
-        let Tried { passage, end } = try_candidate(
+        let tried = try_candidate(
             repeated,
             place,
             context,
@@ -358,15 +355,12 @@ fn search(
             None,
             budget,
         )?;
-        if passage.is_some() {
-            if found.is_some() || round < WIDENED {
-                return Ok(passage);
-            }
-            found = passage;
-            candidate = end;
-        } else {
-            candidate = widen_partition(context, candidate.as_slice(), end.as_slice(), round)?;
+        if is_enough(&tried, &found, round) {
+            return Ok(tried.passage);
         }
+        candidate = next_candidate(context, candidate.as_slice(), &tried, round)?;
+        let later = later_of(found, tried.passage);
+        found = later;
     }
     found_or_widest(found, repeated, place, context, begun, budget)
 }

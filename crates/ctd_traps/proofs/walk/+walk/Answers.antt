@@ -1,10 +1,10 @@
-use Rattle.ctd_traps.proofs.Common.{AbstractState, AreBranches, Asks, Command, IfOk, IfSome, IsJoined, IsPart, PartitionIsWithin, Passage, Passes, PassesOnceBegun, RoundKeeps, SeparatesAt, SeparatorKeeps, StepKeeps, Test, TurnKeeps, Vec, boxed_separator, choice_at}
+use Rattle.ctd_traps.proofs.Common.{AbstractState, AreBranches, Asks, Command, IfOk, IfSome, IsJoined, IsPart, Option, PartitionIsWithin, Passage, Passes, PassesOnceBegun, RoundKeeps, SeparatesAt, SeparatorKeeps, StepKeeps, Test, TurnKeeps, Vec, boxed_separator, choice_at}
 use Rattle.ctd_traps.proofs.Common.{arith, command_list, command_tree, if_ok_more, list_commands, loop_at, nat_tests, out-Choice, out-Loop, subst, sym, test_tree}
 use Rattle.ctd_program.specs.Tree
 use Rattle.ctd_traps.specs.calls.Events.{goes_on}
 use Rattle.ctd_traps.proofs.Noting.{begun_more, faults_more, noted_more, part_trans}
 use Rattle.ctd_traps.proofs.Walking.{between_keeps, choice_steps, separator_more, wider_step}
-use Rattle.ctd_traps.proofs.Steps.{begins_more, begun_passes, choice_step, loop_step, one_passes, passed_keeps, same_or_none, search_passes, walk_done, walk_step}
+use Rattle.ctd_traps.proofs.Steps.{begins_more, begun_passes, choice_step, later_passes, loop_step, one_passes, passed_keeps, same_or_none, search_passes, walk_done, walk_step}
 use Rattle.ctd_traps.proofs.Unrolling.{begins_at_more, nothing_left, separates_later, separates_more, unroll_ends, unroll_goes_on, unroll_starts}
 use Rattle.ctd_traps.proofs.walk.+walk.Goals as goal
 
@@ -238,14 +238,22 @@ found_or_widest-returns t c = λ so. c.in_ok-tried.ensures
 pub search-loop-round-init : goal.search-loop-round-init
 search-loop-round-init t c = tt
 
-pub search-loop-round-preserved-then-is_some : goal.search-loop-round-preserved-then-is_some
-search-loop-round-preserved-then-is_some t c = c.in_ok-try_candidate.ensures
+pub search-loop-round-preserved : goal.search-loop-round-preserved
+search-loop-round-preserved t c = later_passes c.loop-round.found c.in_ok-tried.tried.passage c.later_of-later.result (λ (p : Passage). PassesOnceBegun c.args.context c.args.begun.now c.args.place c.args.repeated.now p)
+    c.later_of-later.ensures c.loop-round.invariant c.in_ok-tried.ensures
 
-pub search-loop-round-preserved-else-is_some : goal.search-loop-round-preserved-else-is_some
-search-loop-round-preserved-else-is_some t c = c.loop-round.invariant
+pub search-returns-then-is_enough : goal.search-returns-then-is_enough
+search-returns-then-is_enough t c = c.in_ok-tried.ensures
 
-pub search-returns-then-is_some : goal.search-returns-then-is_some
-search-returns-then-is_some t c = c.in_ok-try_candidate.ensures
+pub search-returns-then-is_spent : goal.search-returns-then-is_spent
+search-returns-then-is_spent t c =
+    if_ok_more (λ (o : Option Passage). IfSome c.loop-round.found (λ (p : Passage). PassesOnceBegun c.args.context c.args.begun.now c.args.place c.args.repeated.now p) → IfSome o (λ (p : Passage). PassesOnceBegun c.args.context c.args.begun.now c.args.place c.args.repeated.now p)) (λ (o : Option Passage). IfSome o (λ (p : Passage). PassesOnceBegun c.args.context c.args.begun.now c.args.place c.args.repeated.now p)) c.found_or_widest.result
+    (λ o so. so c.loop-round.invariant) c.found_or_widest.ensures
+
+pub search-returns : goal.search-returns
+search-returns t c =
+    if_ok_more (λ (o : Option Passage). IfSome c.loop-round.found (λ (p : Passage). PassesOnceBegun c.args.context c.args.begun.now c.args.place c.args.repeated.now p) → IfSome o (λ (p : Passage). PassesOnceBegun c.args.context c.args.begun.now c.args.place c.args.repeated.now p)) (λ (o : Option Passage). IfSome o (λ (p : Passage). PassesOnceBegun c.args.context c.args.begun.now c.args.place c.args.repeated.now p)) c.found_or_widest-2.result
+    (λ o so. so c.loop-round.invariant) c.found_or_widest-2.ensures
 
 pub search_plainly-returns-in-Some : goal.search_plainly-returns-in-Some
 search_plainly-returns-in-Some t c = subst (λ o. IfSome o (λ (p : Passage). PassesOnceBegun c.args.context c.args.begun.now c.args.place c.args.repeated.now p)) c.in-Some.is c.in_ok-found.ensures
