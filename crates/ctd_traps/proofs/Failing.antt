@@ -1,16 +1,15 @@
 -- What a run of a program may fail by, of which nothing is known: commands fail by their own faults, at their own places.
 use Rattle.ctd_program.specs.Tree
-use Rattle.ctd_traps.proofs.Common.{Act, AreListed, AssertFailed, Before, BeginsBy, Bool, CommandLeads, CommandList, CommandTree, Contains, Contains-append_left, Contains-append_right, Contains-push, Effect, Err, Event, Events, ExprTree, FailsBy, Fault, Faults}
-use Rattle.ctd_traps.proofs.Common.{Fits, GoesOn, Guard, GuardTree, HasEachEvent, HasEachTrap, IsAmong, IsOfValue, IsSimple, Leads, Leaves, List, LoopLeads, Mode, None, Ok, Option, Place, PlacedFault, Preset, Result, Safe, Separator, Some, Splits, Task, TestData, TestTree}
-use Rattle.ctd_traps.proofs.Common.{TurnLeads, Value, VarTree, [], all_commands, answer, answers, assert, assign_key, commands_within, count, done, end, fails, false, faulty, finds, first_skip, give_value, guard_of, if◌then◌else◌, inl, inr, int, integer}
+use Rattle.ctd_traps.proofs.Common.{Act, AreListed, AssertFailed, Before, BeginsBy, Bool, CommandLeads, CommandList, CommandTree, Contains, Contains-append_left, Contains-append_right, Contains-push, Effect, Err, Events, ExprTree, FailsBy, Fault, Faults}
+use Rattle.ctd_traps.proofs.Common.{Fits, Guard, GuardTree, HasEachTrap, IsAmong, IsSimple, Leads, Leaves, List, None, Ok, Option, Place, PlacedFault, Preset, Result, Separator, Some, Splits, TestData, TestTree}
+use Rattle.ctd_traps.proofs.Common.{Value, VarTree, [], all_commands, answer, answers, assert, assign_key, commands_within, count, done, end, fails, false, faulty, finds, give_value, guard_of, if◌then◌else◌, inl, inr, int, integer}
 use Rattle.ctd_traps.proofs.Common.{is_assert, is_eof, is_int, is_newline, is_regex, is_set, is_space, is_string, is_unset, keep, key, leading_match, length, lift, loop_of, match_bytes, newline, number_of, place_of, pos, proceed, refl, regex, reject, rejected, return, separator_before}
-use Rattle.ctd_traps.proofs.Common.{separator_commands, set, set_to, space, start, string, subst, suc, text_of, take_turn, times, true, truth, turn, unset_all, val, while_true, zero, ℕ, ⊤, ◌++◌, ◌∷◌, ◌≡◌, ◌+◌}
+use Rattle.ctd_traps.proofs.Common.{separator_commands, set, set_to, space, start, string, subst, suc, text_of, take_turn, times, true, truth, unset_all, val, while_true, zero, ℕ, ⊤, ◌++◌, ◌∷◌, ◌≡◌, ◌+◌}
 use Rattle.ctd_command.specs.State.{State}
 use Rattle.ctd_check.specs.Loops.{Loop as Started, goes_on}
 use Rattle.ctd_outcome.specs.declared.reason.Fault.TheVariants as faults
 use Rattle.ctd_store.specs.declared.value.Value.TheVariants as values
 use Rattle.ctd_traps.specs.calls.Events as happenings
-use Rattle.ctd_traps.specs.declared.joined.Moment.TheVariants as moments
 use Rattle.ctd_traps.specs.inner.Anything.{AreAllListed, AreAmong, IsListed, of_expressions, of_loops, of_nothing, of_tests}
 use Rattle.ctd_transfer.proofs.Fits.{end_fits, integer_fits, leading_fits, match_fits, newline_fits, space_fits}
 use Rattle.ctd_value.proofs.Ordinary.{FailsWith, IsOfTest, IsOrdinary, key_is_ordinary, number_is_ordinary, text_is_ordinary, truth_is, value_is}

@@ -1,4 +1,4 @@
-use Rattle.ctd_traps.proofs.Common.{NeverHappens, [], command_trees, events_of, faults_of, refl, subst, sym}
+use Rattle.ctd_traps.proofs.Common.{NeverHappens, command_trees, events_of, faults_of, refl, subst, sym}
 use Rattle.ctd_traps.proofs.Absent.{none_in}
 use Rattle.ctd_traps.proofs.Failing.{anything_is_listed}
 use Rattle.ctd_traps.proofs.program.unknown.Goals as goal

@@ -1,4 +1,4 @@
-use Rattle.ctd_traps.proofs.Common.{AbstractState, AreBranches, Asks, Command, IfOk, IfSome, IsJoined, IsPart, Option, PartitionIsWithin, Passage, Passes, PassesOnceBegun, RoundKeeps, SeparatesAt, SeparatorKeeps, StepKeeps, Test, TurnKeeps, Vec, boxed_separator, choice_at}
+use Rattle.ctd_traps.proofs.Common.{AbstractState, AreBranches, Asks, Command, IfOk, IfSome, IsJoined, IsPart, Option, PartitionIsWithin, Passage, Passes, PassesOnceBegun, SeparatesAt, SeparatorKeeps, StepKeeps, Test, TurnKeeps, Vec, boxed_separator, choice_at}
 use Rattle.ctd_traps.proofs.Common.{arith, command_list, command_tree, if_ok_more, list_commands, loop_at, nat_tests, out-Choice, out-Loop, subst, sym, test_tree}
 use Rattle.ctd_program.specs.Tree
 use Rattle.ctd_traps.specs.calls.Events.{goes_on}
