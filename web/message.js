@@ -10,7 +10,7 @@ const END = "‹end of text›";
 
 // The ranks of findings, and what is said of the last command without an END in a program that is refused.
 const RANKS = ["error", "warning", "risk", "note"];
-export const NO_END = "this command has no END";
+const NO_END = "this command has no END";
 
 // The spot in the data and the place in the program that an answer names, null where it names none; and the message, without them.
 export function placesIn(answer) {

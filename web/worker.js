@@ -1,6 +1,6 @@
 // Runs the checker or ctd-lint in the background. The page ends the worker to stop a check, and starts a new one for the next.
 import { Checker, Linter } from "./checker.js";
-import { NO_END, excerpt, placesIn } from "./message.js";
+import { excerpt, placesIn } from "./message.js";
 import { offsetAt, textOf } from "./program.js";
 import { wordsOfPresets, wordsOfRefusal } from "./refusals.js";
 import { valuesAt } from "./values.js";
@@ -47,13 +47,10 @@ async function lint({ module, options, program }) {
   const text = await load(linter, program);
   const { findings, remarks } = linter.findings(options, text);
   const refusal = findings.find(({ rank }) => rank === "error");
-  if (!refusal) return { findings, remarks };
   // ctd-lint says more of a program, and nothing of presets.
-  const words = refusal.place ? "" : wordsOfPresets(presetsIn(options));
+  const words = refusal && !refusal.place ? wordsOfPresets(presetsIn(options)) : "";
   if (words) refusal.text += `: ${words}`;
-  // (a parenthesis is missing before an END can be)
-  const isEndMissing = /\bEND\b/.test(refusal.text);
-  return { findings: findings.filter(({ text }) => isEndMissing || text !== NO_END), remarks };
+  return { findings, remarks };
 }
 
 // The values of the variables where a check failed, whose answer is given; an empty text where there are none, or the program or the data are long.

@@ -208,8 +208,8 @@ pub fn lint<P: Source, O: Sink, E: Sink>(
             LoadKind::Memory => return Err(ToolFault::Memory),
             _ => {
                 let told = explanation(alloc, text.as_slice(), &fault)?;
-                let unclosed = unclosed_command(alloc, text.as_slice(), &fault)?;
                 let told = told.as_slice();
+                let unclosed = unclosed_command(alloc, text.as_slice(), &fault, told)?;
                 return write_refusal(alloc, setup.form, file, &fault, told, unclosed, out, err);
             }
         },

@@ -3,13 +3,19 @@
 use ctd_token::{LoadFault, LoadKind, Place, tokens};
 use std::alloc::{AllocError, Global};
 
-/// The place of the innermost command without its END, in a text whose syntax error stands behind its last token.
+/// Whether END could stand at a fault of which this is told; nothing may be told of a long text.
+fn may_be_end(told: &[u8]) -> bool {
+    told.is_empty() || told.ends_with(b"END")
+}
+
+/// The place of the innermost command without its END, in a text whose syntax error, of which this is told, stands behind its last token.
 pub(crate) fn unclosed_command(
     alloc: Global,
     text: &[u8],
     fault: &LoadFault,
+    told: &[u8],
 ) -> Result<Option<Place>, AllocError> {
-    if fault.kind != LoadKind::Syntax {
+    if fault.kind != LoadKind::Syntax || !may_be_end(told) {
         return Ok(None);
     }
     let tokens = match tokens(alloc, text) {
