@@ -27,6 +27,7 @@ if [ "$failed" -eq 0 ]; then
     count tests/lint.py
     count tests/verdicts.py
     count tests/verdicts.py --lint
+    count tests/in_a_row.py
     count tests/failing_calls.py
     count tests/reads.py
     count tests/allocations.py

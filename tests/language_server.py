@@ -361,8 +361,8 @@ exit 1"""
         self.assertEqual(self.findings(script, text), [(2, "the program does not mention: x", "unknown-preset", span(0, 15, 16))])
 
     def test_of_the_whole_program(self) -> None:
-        script = """echo '{"file":"p.ctd","rank":"verdict","text":"too large to tell"}'"""
-        self.assertEqual(self.findings(script, "SPACE\nSPACE"), [(3, "too large to tell", "", span(0, 0, 5))])
+        script = """echo '{"file":"p.ctd","rank":"verdict","text":"every data file gets a verdict"}'"""
+        self.assertEqual(self.findings(script, "SPACE\nSPACE"), [(3, "every data file gets a verdict", "", span(0, 0, 5))])
 
     def test_a_linter_that_fails(self) -> None:
         for script, told in [("echo out of memory >&2; exit 2", "out of memory"), ("exit 139", "ended with status 139")]:

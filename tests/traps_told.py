@@ -6,7 +6,7 @@ from dataclasses import dataclass
 from results import TOP
 
 sys.path.insert(0, str(TOP / "tools"))
-from ctd_findings import TOO_LARGE, said_in  # noqa: E402, F401
+from ctd_findings import said_in  # noqa: E402, F401
 
 # The kinds of traps that stand for each fault of a value.
 KINDS = {

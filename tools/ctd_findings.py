@@ -10,7 +10,6 @@ from ctd_companion import Place, text_of
 
 LINTER = "ctd-lint"
 RANKS = ("warning", "note", "risk", "verdict", "error")
-TOO_LARGE = "too large to tell"
 
 
 @dataclass(frozen=True)
@@ -59,7 +58,7 @@ def said_in(written: str) -> Iterator[Finding]:
 
 def findings_in(written: str) -> list[Finding]:
     """What ctd-lint says also without --verdicts."""
-    return [one for one in said_in(written) if one.rank != "verdict" or one.text == TOO_LARGE]
+    return [one for one in said_in(written) if one.rank != "verdict"]
 
 
 def place_in(said: dict[str, Any]) -> Place | None:

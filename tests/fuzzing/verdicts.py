@@ -13,7 +13,7 @@ from reference.store import Indices, Store
 from reference.tool import Answer
 from reference.values import Value
 from reference.words import Asked, sort_words
-from traps_told import EVERY, KINDS, TOO_LARGE, TRAP_KINDS, Report, report_of
+from traps_told import EVERY, KINDS, TRAP_KINDS, Report, report_of
 
 from .case import Case
 from .cases import case_of, case_with_arrays
@@ -118,7 +118,7 @@ def complaints_of(case: Case, checker: Checker, linter: Linter) -> list[str]:
     """How ctd-lint leaves out the fault by which the checker stops on a case, if it does both."""
     stop = stop_of(checker.answer(case))
     report = linter.report(case)
-    if stop is None or report is None or report.verdicts == TOO_LARGE:
+    if stop is None or report is None:
         return []
     return list(complaints(stop, kinds_of(stop, case), report))
 
@@ -135,8 +135,8 @@ def compare(checker: Checker, linter: Linter, seed: int, numbers: Sequence[int])
         report = linter.report(case)
         if report is None:
             continue
-        found.programs[report.verdicts if report.verdicts in (EVERY, TOO_LARGE) else "others"] += 1
-        if stop is None or report.verdicts == TOO_LARGE:
+        found.programs[report.verdicts if report.verdicts == EVERY else "others"] += 1
+        if stop is None:
             continue
         kinds = kinds_of(stop, case)
         found.kinds["/".join(kinds)] += 1

@@ -8,6 +8,7 @@ use crate::loops::loop_of;
 use crate::never::NeverAt;
 use crate::parameter::asks_for_parameters;
 use crate::same::has_variable;
+use crate::sides::has_same_sides;
 use ctd_program::{Action, Command, Test};
 use ctd_states::TrapKind;
 use ctd_token::Place;
@@ -59,10 +60,10 @@ fn add_trap(trap: &Trap, outcomes: &mut Outcomes) -> Result<(), AllocError> {
     Ok(())
 }
 
-/// What the analysis tells of the places of a program, if it tells anything.
+/// What the analysis tells of the places of a program.
 pub(crate) fn outcomes_of(
     alloc: Global,
-    traps: &Option<TrapList<'_>>,
+    traps: &TrapList<'_>,
     never: &[Note],
 ) -> Result<Outcomes, AllocError> {
     let mut outcomes = Outcomes {
@@ -70,10 +71,8 @@ pub(crate) fn outcomes_of(
         stopping: BTreeSet::new(alloc),
         mistyped: BTreeSet::new(alloc),
     };
-    if let Some(list) = traps {
-        for trap in list.traps.as_slice() {
-            add_trap(trap, &mut outcomes)?;
-        }
+    for trap in traps.traps.as_slice() {
+        add_trap(trap, &mut outcomes)?;
     }
     Ok(outcomes)
 }
@@ -135,8 +134,8 @@ fn answer_kinds(command: &Command, t: &Test) -> (Kind, Kind) {
     }
 }
 
-/// Adds the remark on the test of a command that has one answer. Nothing is said where a run may stop at the test, nor where IF or ASSERT asks for
-/// parameters, to which presets may give another value.
+/// Adds the remark on the test of a command that has one answer. Nothing is said where a run may stop at the test, nor where it compares something with
+/// itself, which is told, nor where IF or ASSERT asks for parameters, to which presets may give another value.
 pub(crate) fn list_one_answer<'p>(
     command: &'p Command,
     parameters: &BTreeSet<&'p [u8]>,
@@ -149,6 +148,7 @@ pub(crate) fn list_one_answer<'p>(
     };
     let is_loop = loop_of(command).is_some();
     if outcomes.stopping.contains(&key(command.place))
+        || has_same_sides(t)
         || (!is_loop && asks_for_parameters(t, parameters))
     {
         return;

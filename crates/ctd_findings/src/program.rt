@@ -1,9 +1,7 @@
 //! The findings of a program.
 
-ghost use Rattle.std.specs.Prelude.{◌≡◌, List, All, Contains, IfOk, IfSome};
+ghost use Rattle.std.specs.Prelude.{List, All, Contains, IfOk};
 ghost use Rattle.ctd_token.specs.declared.text.Place.{Place};
-ghost use Rattle.ctd_program.specs.Tree.{CommandList};
-ghost use Rattle.ctd_program.specs.declared.preset.Preset.{Preset};
 ghost use Rattle.ctd_program.specs.calls.View.{command_trees};
 ghost use Rattle.ctd_findings.specs.calls.Findings.{IsPlaced, IsTrueOfRuns, places_of};
 ghost use Rattle.ctd_findings.specs.inner.Never.{AllHave, IsSaid};
@@ -106,23 +104,13 @@ fn list_commands<'p>(
     }
 }
 
-/// What never happens, as far as it is told.
-fn never_in<'t>(traps: &'t Option<TrapList<'_>>) -> &'t [Note]
-    ensures { (program : CommandList) (presets : List Preset) → IfSome traps.now (λ list. NeverHappens program presets (events_of list.never.items)) → NeverHappens program presets (events_of result.now) }
-{
-    match traps {
-        Some(list) => list.never.as_slice(),
-        None => &[],
-    }
-}
-
 /// The findings of a program with these commands, one after the other, where these presets are given.
 fn findings_in<'p>(
     alloc: Global,
     program: &'p [Command],
     commands: &[CommandInBlock<'p>],
     presets: &'p Presets,
-    traps: &Option<TrapList<'_>>,
+    traps: &TrapList<'_>,
     never: &[Note],
 ) -> Result<Vec<Finding>, AllocError>
     ensures sound { IfOk result (λ found. All (IsSound (places_in commands.now) never.now) found.items) }
@@ -148,10 +136,10 @@ pub fn findings<'p>(
     alloc: Global,
     commands: &'p [Command],
     presets: &'p Presets,
-    traps: &Option<TrapList<'_>>,
+    traps: &TrapList<'_>,
 ) -> Result<Vec<Finding>, AllocError>
     ensures placed { IfOk result (λ found. All (IsPlaced (places_of (command_trees commands.now))) found.items) }
-    ensures meant { IfSome traps.now (λ list. NeverHappens (command_trees commands.now) presets.now (events_of list.never.items))
+    ensures meant { NeverHappens (command_trees commands.now) presets.now (events_of traps.now.never.items)
         → IfOk result (λ found. All (IsTrueOfRuns (command_trees commands.now) presets.now) found.items) }
 {
     let entries = all_commands(alloc, commands)?;
@@ -161,6 +149,6 @@ pub fn findings<'p>(
         entries.as_slice(),
         presets,
         traps,
-        never_in(traps),
+        traps.never.as_slice(),
     )
 }

@@ -1,11 +1,11 @@
 -- What is reported of a program, put together from what loading promises.
 use Rattle.ctd_lint_report.proofs.Common.{All, AreRemarks, AreTraps, CommandList, Err, Finding, Ghosts, IsLintReport, IsPlaced, IsTrueOfRuns, LintSetup, List, LoadFault, LoadsFrom, Memory, NeverHappens, Ok, Option}
-use Rattle.ctd_lint_report.proofs.Common.{IfSome, Place, TrapList, before_after, events_of, inl, inr, places_of, program_report, refl, refusal_report, remarks_of, ℕ, ◌≢◌}
+use Rattle.ctd_lint_report.proofs.Common.{Place, TrapList, before_after, events_of, inl, inr, places_of, program_report, refl, refusal_report, remarks_of, ℕ, ◌≢◌}
 
 module _ {V P : Type 0} (tree_of : V → CommandList) (G : Ghosts P) (file : List ℕ) (setup : LintSetup) (old new : P) where
   -- a program that was loaded, its findings and its traps
-  pub reports_program : (plan : V) (found : List Finding) (trap_list : Option TrapList) → LoadsFrom tree_of G old new (Ok plan) → All (IsPlaced (places_of (tree_of plan))) found
-      → All (IsTrueOfRuns (tree_of plan) setup.presets) found → AreTraps (tree_of plan) setup.presets trap_list → IfSome trap_list (λ list. NeverHappens (tree_of plan) setup.presets (events_of list.never.items)) → IsLintReport AreRemarks file setup (before_after G old new) (program_report file setup (remarks_of file setup found trap_list) trap_list)
+  pub reports_program : (plan : V) (found : List Finding) (trap_list : TrapList) → LoadsFrom tree_of G old new (Ok plan) → All (IsPlaced (places_of (tree_of plan))) found
+      → All (IsTrueOfRuns (tree_of plan) setup.presets) found → AreTraps (tree_of plan) setup.presets trap_list → NeverHappens (tree_of plan) setup.presets (events_of trap_list.never.items) → IsLintReport AreRemarks file setup (before_after G old new) (program_report file setup (remarks_of file setup found trap_list) trap_list)
   reports_program plan found trap_list l placed meant are never =
       inl (record {
         tree = tree_of plan;

@@ -5,16 +5,19 @@ ghost use Rattle.ctd_report.specs.calls.Written.{Leaves};
 ghost use Rattle.ctd_report.specs.Written.{before_after};
 ghost use Rattle.ctd_token.specs.FaultText as faults;
 ghost use Rattle.ctd_lint_report.specs.calls.Reasons.{reason_of};
-ghost use Rattle.ctd_lint_report.specs.calls.Report.{error_report};
+ghost use Rattle.ctd_lint_report.specs.calls.Report.{error_report, less_known_lines};
 ghost use Rattle.ctd_lint_report.specs.calls.Text.{error_entry, finding_entry, never_lines, trap_entry, verdict_entry};
 
 use crate::json::{
-    write_error_object, write_finding_object, write_never_objects, write_trap_object,
-    write_verdict_object,
+    write_error_object, write_finding_object, write_less_known_object, write_never_objects,
+    write_trap_object, write_verdict_object,
 };
 use crate::reason::reason_of;
 use crate::setup::Form;
-use crate::text::{write_error_lines, write_finding_line, write_trap_line, write_verdict_line};
+use crate::text::{
+    write_error_lines, write_finding_line, write_less_known_line, write_trap_line,
+    write_verdict_line,
+};
 use ctd_findings::Finding;
 use ctd_report::{NO_VERDICT, Sink, ToolFault, write_report};
 use ctd_token::{LoadFault, Place};
@@ -51,6 +54,27 @@ pub(crate) fn write_trap(
     match form {
         Form::Text => write_trap_line(file, trap, &reason, text),
         Form::Json => write_trap_object(file, trap, &reason, text),
+    }
+}
+
+/// Appends what is written of the command from which on less is known, behind the lines of traps, if there are any.
+pub(crate) fn write_less_known(
+    form: Form,
+    file: &[u8],
+    less_known: Option<Place>,
+    text: &mut Vec<u8>,
+) -> Result<(), AllocError>
+    ensures { OnOk result (text.new.items ≡ text.old.items ++ less_known_lines form file.now text.old.items less_known) }
+{
+    if text.is_empty() {
+        return Ok(());
+    }
+    let Some(place) = less_known else {
+        return Ok(());
+    };
+    match form {
+        Form::Text => write_less_known_line(file, place, text),
+        Form::Json => write_less_known_object(file, place, text),
     }
 }
 

@@ -2,10 +2,10 @@
 
 ghost use Rattle.std.specs.Prelude.{◌≡◌, ◌<◌, ◌++◌, decimal, flat_map, OnOk, Some};
 ghost use Rattle.std.specs.Char.{digit_char};
-ghost use Rattle.ctd_lint_report.specs.calls.Json.{byte_text, code_text, error_object, event_name, finding_object, head_text, is_printable, is_quoted, member, never_object, numbers_text, optional_member, said_text, string_text, trap_object, unclosed_member, verdict_object};
+ghost use Rattle.ctd_lint_report.specs.calls.Json.{byte_text, code_text, error_object, event_name, finding_object, head_text, is_printable, is_quoted, less_known_object, member, never_object, numbers_text, optional_member, said_text, string_text, trap_object, unclosed_member, verdict_object};
 
 use crate::kind::{rank_text, trap_name, trap_text};
-use crate::text::write_number;
+use crate::text::{less_known_text, write_number};
 use ctd_findings::Finding;
 use ctd_token::{Bytes, Place};
 use ctd_traps::{EventKind, Note, Trap};
@@ -181,6 +181,20 @@ pub(crate) fn write_trap_object(
         text,
     )?;
     write_optional("reason", reason, text)?;
+    text.extend_from_slice(b"}\n")
+}
+
+/// Appends the object of the command from which on less is known.
+pub(crate) fn write_less_known_object(
+    file: &[u8],
+    place: Place,
+    text: &mut Vec<u8>,
+) -> Result<(), AllocError>
+    ensures { OnOk result (text.new.items ≡ text.old.items ++ less_known_object file.now place) }
+{
+    write_head(file, Some(place), text)?;
+    write_member("rank", b"note", text)?;
+    write_member("text", less_known_text().as_bytes(), text)?;
     text.extend_from_slice(b"}\n")
 }
 

@@ -8,11 +8,13 @@ ghost use Rattle.ctd_lint_report.specs.calls.Report.{AreRemarks, IsLintReport, f
 ghost use Rattle.ctd_lint_report.specs.calls.Text.{findings_lines, kept};
 ghost use Rattle.ctd_lint_report.specs.calls.Traps.{verdict_lines, verdict_status};
 
-use crate::entry::{refusal_text, unopened_text, write_error, write_finding, write_never};
+use crate::entry::{
+    refusal_text, unopened_text, write_error, write_finding, write_less_known, write_never,
+};
 use crate::explanation::explanation;
 use crate::kind::{LintKind, is_ignored};
 use crate::setup::{Form, LintSetup};
-use crate::traps::{some_open, too_large_entry, traps_text, write_verdict_of};
+use crate::traps::{some_open, traps_text, write_verdict_of};
 use crate::unclosed::unclosed_command;
 use ctd_findings::{Finding, Rank, findings};
 use ctd_loader::Plan;
@@ -60,13 +62,10 @@ fn status_of(found: &[Finding], ignored: &[LintKind]) -> u8
 }
 
 /// The status that `--verdicts` asks for.
-fn verdict_status(setup: &LintSetup, trap_list: &Option<TrapList<'_>>) -> u8
+fn verdict_status(setup: &LintSetup, trap_list: &TrapList<'_>) -> u8
     ensures { result ≡ verdict_status setup.now trap_list.now }
 {
-    let Some(list) = trap_list else {
-        return WARNINGS;
-    };
-    if some_open(list.traps.as_slice(), setup.ignored.as_slice()) {
+    if some_open(trap_list.traps.as_slice(), setup.ignored.as_slice()) {
         WARNINGS
     } else {
         NO_WARNINGS
@@ -78,7 +77,7 @@ fn program_status(
     file: &Bytes,
     setup: &LintSetup,
     found: &[Finding],
-    trap_list: &Option<TrapList<'_>>,
+    trap_list: &TrapList<'_>,
 ) -> u8
     ensures { result ≡ program_status setup.now (remarks_of file.now setup.now found.now trap_list.now) trap_list.now }
 {
@@ -89,22 +88,20 @@ fn program_status(
     own.max(verdict_status(setup, trap_list))
 }
 
-/// What is written of the traps of a program, but for those that findings tell too, and of what never happens.
+/// What is written of the traps of a program, but for those that findings tell too, and behind them.
 fn verdict_text(
     alloc: Global,
     file: &[u8],
     setup: &LintSetup,
     found: &[Finding],
-    trap_list: &Option<TrapList<'_>>,
+    trap_list: &TrapList<'_>,
 ) -> Result<Vec<u8>, AllocError>
     ensures { IfOk result (λ text. text.items ≡ verdict_lines file.now setup.now (remarks_of file.now setup.now found.now trap_list.now) trap_list.now) }
 {
-    let Some(list) = trap_list else {
-        return too_large_entry(alloc, setup.form, file);
-    };
-    let traps = list.traps.as_slice();
-    let mut text = traps_text(alloc, file, setup, found, list.names.as_slice(), traps)?;
-    write_never(setup.form, file, list.never.as_slice(), &mut text)?;
+    let traps = trap_list.traps.as_slice();
+    let mut text = traps_text(alloc, file, setup, found, trap_list.names.as_slice(), traps)?;
+    write_less_known(setup.form, file, trap_list.less_known, &mut text)?;
+    write_never(setup.form, file, trap_list.never.as_slice(), &mut text)?;
     write_verdict_of(alloc, file, setup, traps, &mut text)?;
     Ok(text)
 }
@@ -115,7 +112,7 @@ fn program_text(
     setup: &LintSetup,
     file: &Bytes,
     found: &[Finding],
-    trap_list: &Option<TrapList<'_>>,
+    trap_list: &TrapList<'_>,
 ) -> Result<Vec<u8>, AllocError>
     ensures { IfOk result (λ text. text.items ≡ program_lines file.now setup.now (remarks_of file.now setup.now found.now trap_list.now) trap_list.now) }
 {
@@ -131,7 +128,7 @@ fn write_program<O: Sink, E: Sink>(
     setup: &LintSetup,
     file: &Bytes,
     found: &[Finding],
-    trap_list: &Option<TrapList<'_>>,
+    trap_list: &TrapList<'_>,
     out: &mut O,
     err: &mut E,
 ) -> Result<u8, ToolFault>
@@ -214,7 +211,7 @@ pub fn lint<P: Source, O: Sink, E: Sink>(
             }
         },
     };
-    let trap_list = traps(alloc, plan.commands(), &setup.presets)?;
+    let trap_list = traps(alloc, plan.commands(), &setup.presets, false)?;
     let found = findings(alloc, plan.commands(), &setup.presets, &trap_list)?;
     write_program(alloc, setup, file, found.as_slice(), &trap_list, out, err)
 }

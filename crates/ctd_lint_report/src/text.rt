@@ -1,7 +1,8 @@
 //! What is written as text: lines as compilers have them, so that editors find their places.
 
 ghost use Rattle.std.specs.Prelude.{◌≡◌, ◌++◌, decimal, OnOk};
-ghost use Rattle.ctd_lint_report.specs.calls.Text.{about_text, error_lines, error_place_text, finding_line, place_text, remark_text, trap_line, unclosed_line, verdict_line};
+ghost use Rattle.ctd_lint_report.specs.calls.Json.{less_known_text};
+ghost use Rattle.ctd_lint_report.specs.calls.Text.{about_text, error_lines, error_place_text, finding_line, less_known_line, place_text, remark_text, trap_line, unclosed_line, verdict_line};
 
 use crate::kind::{rank_text, trap_name, trap_text};
 use ctd_findings::{Finding, Remark};
@@ -83,6 +84,28 @@ pub(crate) fn write_trap_line(
     text.extend_from_slice(b" [")?;
     text.extend_from_slice(trap_name(trap.kind).as_bytes())?;
     text.extend_from_slice(b"]\n")
+}
+
+/// What is said of the command from which on less is known.
+pub(crate) fn less_known_text() -> &'static str
+    ensures { result.now ≡ less_known_text }
+{
+    "less is known from here on, since the program takes long to analyse"
+}
+
+/// Appends the line of the command from which on less is known.
+pub(crate) fn write_less_known_line(
+    file: &[u8],
+    place: Place,
+    text: &mut Vec<u8>,
+) -> Result<(), AllocError>
+    ensures { OnOk result (text.new.items ≡ text.old.items ++ less_known_line file.now place) }
+{
+    text.extend_from_slice(file)?;
+    write_place(place, text)?;
+    text.extend_from_slice(b": note: ")?;
+    text.extend_from_slice(less_known_text().as_bytes())?;
+    text.extend_from_slice(b"\n")
 }
 
 /// Appends the line of what is said of verdicts.

@@ -6,7 +6,7 @@ ghost use Rattle.ctd_lint_report.specs.calls.Kinds.{is_unconditional, trap_name}
 ghost use Rattle.ctd_lint_report.specs.calls.Reasons.{reason_of};
 ghost use Rattle.ctd_lint_report.specs.calls.Report.{is_told, tells};
 ghost use Rattle.ctd_lint_report.specs.calls.Text.{kept, verdict_entry};
-ghost use Rattle.ctd_lint_report.specs.calls.Traps.{condition_text, every_text, is_kind_shown, is_open, is_place_before, is_same_place, is_shown, kept_traps, places_behind, places_text, some_element, some_shape, some_unconditional, tells_verdict, too_large_text, traps_lines, verdict_text};
+ghost use Rattle.ctd_lint_report.specs.calls.Traps.{condition_text, every_text, is_kind_shown, is_open, is_place_before, is_same_place, is_shown, kept_traps, places_behind, places_text, some_element, some_shape, some_unconditional, tells_verdict, traps_lines, verdict_text};
 
 use crate::entry::{write_trap, write_verdict};
 use crate::kind::{
@@ -39,7 +39,7 @@ fn is_told(found: &[Finding], ignored: &[LintKind], trap: &Trap) -> bool
     ensures { result ≡ is_told (kept ignored.now found.now) trap.now }
 {
     for finding in found {
-        if !is_ignored(finding.remark.kind.name(), ignored) && tells(finding, trap) {
+        if tells(finding, trap) && !is_ignored(finding.remark.kind.name(), ignored) {
             return true;
         }
     }
@@ -213,15 +213,6 @@ pub(crate) fn write_verdict_of(
     let mut said = Vec::new(alloc);
     write_said(traps, &mut said)?;
     write_verdict(setup.form, file, said.as_slice(), text)
-}
-
-/// What is written where it cannot be told where a run may stop.
-pub(crate) fn too_large_entry(alloc: Global, form: Form, file: &[u8]) -> Result<Vec<u8>, AllocError>
-    ensures { IfOk result (λ text. text.items ≡ verdict_entry form file.now too_large_text) }
-{
-    let mut text = Vec::new(alloc);
-    write_verdict(form, file, b"too large to tell", &mut text)?;
-    Ok(text)
 }
 
 /// Whether traps of a kind leave open whether each data file gets a verdict.

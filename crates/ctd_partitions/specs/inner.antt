@@ -1,2 +1,3 @@
 -- What only proofs use.
+pub mod Denied
 pub mod States

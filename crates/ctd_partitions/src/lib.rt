@@ -3,6 +3,7 @@
 
 mod change;
 mod compare;
+mod denied;
 mod partition;
 mod question;
 mod state;
@@ -13,4 +14,4 @@ pub use partition::{
     are_within, copy_of_state, join_all, join_partitions, join_state, widen_partition,
 };
 pub use question::{compared, equal, hit};
-pub use state::{State, view_of};
+pub use state::{State, make_unreachable, view_of};

@@ -9,12 +9,13 @@ ghost use Rattle.ctd_partitions.specs.calls.States.{IsCopyOf};
 use crate::change::{Facts, tidied};
 use crate::compare::{is_never, is_within, join, joined_facts};
 use crate::state::{State, copy_of_facts, view_of};
+use ctd_candidates::candidates_of_both;
 use ctd_element_changes::facts_that_follow;
 use ctd_states::{AbstractValue, Context, Stop, copy_of, widen_entries};
 use std::alloc::Global;
 
 /// How many states a partition has at most.
-const MOST: usize = 4;
+const MOST: usize = 8;
 
 /// Whether the same names are sure to have a value.
 fn have_same_values(a: &[AbstractValue], b: &[AbstractValue]) -> bool {
@@ -33,6 +34,42 @@ fn matching_state(states: &[State], state: &State) -> Option<usize>
         }
     }
     None
+}
+
+/// Of how many names only one of two states says that they are sure to have a value.
+fn count_differing(a: &[AbstractValue], b: &[AbstractValue]) -> usize {
+    a.iter()
+        .zip(b)
+        .filter(|(one, other)| one.may_lack != other.may_lack)
+        .count()
+}
+
+/// The index of the state that says so of the most names, as another does.
+fn nearest_state(states: &[State], state: &State) -> Option<usize>
+    ensures inside { IfSome result (λ i. i < length states.now) }
+{
+    let mut nearest = None;
+    let mut least = usize::MAX;
+    for (i, other) in states.iter().enumerate() {
+        let differing = count_differing(other.entries.as_slice(), state.entries.as_slice());
+        if differing < least {
+            least = differing;
+            nearest = Some(i);
+        }
+    }
+    nearest
+}
+
+/// The index of the state with which another is joined: the one in which the same names are sure to have a value, or the nearest one, if there is no
+/// room for another.
+fn state_to_join(states: &[State], state: &State) -> Option<usize>
+    ensures inside { IfSome result (λ i. i < length states.now) }
+{
+    let same = matching_state(states, state);
+    if same.is_none() && states.len() >= MOST {
+        return nearest_state(states, state);
+    }
+    same
 }
 
 /// A copy of a state.
@@ -70,18 +107,8 @@ fn with_pushed(mut states: Vec<State>, state: State) -> Result<Vec<State>, Stop>
     Ok(states)
 }
 
-/// The states where they are few, and otherwise their join.
-fn limit_states(context: Context, states: Vec<State>) -> Result<Vec<State>, Stop>
-    ensures { IfOk result (λ all. PartitionIsWithin context.entry states.items all.items) }
-{
-    if states.len() <= MOST {
-        return Ok(states);
-    }
-    let all = join_all(context, states.as_slice())?;
-    with_pushed(Vec::new(context.alloc), all)
-}
-
-/// A partition and one more state, which is joined with that in which the same names are sure to have a value. Unreachable states are dropped.
+/// A partition and one more state, which is joined with that in which the same names are sure to have a value, and with the nearest one where there is
+/// no room for it. Unreachable states are dropped.
 pub fn join_state(
     context: Context,
     mut states: Vec<State>,
@@ -94,16 +121,13 @@ pub fn join_state(
     if is_dropped {
         return Ok(states);
     }
-    match matching_state(states.as_slice(), &state) {
+    match state_to_join(states.as_slice(), &state) {
         Some(i) => {
             let same = states.remove(i);
             let joined = join(context, &same, &state)?;
             with_pushed(states, joined)
         }
-        None => {
-            let more = with_pushed(states, state)?;
-            limit_states(context, more)
-        }
+        None => with_pushed(states, state),
     }
 }
 
@@ -151,25 +175,33 @@ pub fn are_within(context: Context, states: &[State], others: &[State]) -> bool
 /// In how many rounds a candidate may get new facts.
 const OPEN_ROUNDS: usize = 3;
 
-/// The facts of a state of a candidate, widened by those at the end of a turn: in the first rounds those of both, later the old ones that still follow.
+/// The facts of a state of a candidate, widened by those at the end of a turn: in the first rounds those of both, later the old ones that still follow,
+/// with their greatest values or without.
 fn widen_facts(context: Context, old: &State, end: &State, round: usize) -> Result<Facts, Stop> {
     if round < OPEN_ROUNDS {
         return joined_facts(context, old, end);
     }
     let alloc = context.alloc;
-    let staying = facts_that_follow(alloc, view_of(context, end), old.facts.as_slice())?;
-    let changed = Vec::new(alloc);
+    let view = view_of(context, end);
+    let staying = facts_that_follow(alloc, view, old.facts.as_slice())?;
+    let looser = candidates_of_both(alloc, old.facts.as_slice(), &[])?;
+    let changed = facts_that_follow(alloc, view, looser.as_slice())?;
     Ok(Facts { staying, changed })
 }
 
-/// A state, widened by that of the last candidate in which the same names are sure to have a value.
+/// A state, widened by that of the last candidate in which the same names are sure to have a value, and later by the nearest one.
 fn widen_state(
     context: Context,
     candidate: &[State],
     state: &State,
     round: usize,
 ) -> Result<State, Stop> {
-    match matching_state(candidate, state) {
+    let found = if round < OPEN_ROUNDS {
+        matching_state(candidate, state)
+    } else {
+        nearest_state(candidate, state)
+    };
+    match found {
         Some(i) => {
             let old = &candidate[i];
             let entries = widen_entries(

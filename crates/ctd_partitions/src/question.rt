@@ -7,15 +7,16 @@ ghost use Rattle.ctd_partitions.specs.calls.States.{IsStateWithin};
 ghost use Rattle.ctd_partitions.specs.inner.States.{IsTidied};
 
 use crate::change::{Facts, tidied};
-use crate::state::{State, copy_of_facts, view_of};
+use crate::denied::is_denied;
+use crate::state::{State, copy_of_facts, make_unreachable, view_of};
 use ctd_candidates::{candidates_compared, candidates_equal, candidates_hit};
 use ctd_element_changes::{facts_compared, facts_hit, facts_that_follow};
 use ctd_elements::{Fact, Limits};
 use ctd_program::Compare;
 use ctd_states::{Context, Stop, copy_of};
 
-/// The state where two numbers, of which something is known, compare so.
-pub fn compared(
+/// The state with what it says of two numbers, of which something is known, that they compare so.
+fn with_comparison(
     context: Context,
     state: &State,
     by: Compare,
@@ -28,6 +29,23 @@ pub fn compared(
     let candidates = candidates_compared(context.alloc, a, b)?;
     let changed = facts_compared(context.alloc, view, candidates.as_slice(), by, a, b)?;
     with_changed(context, state, changed)
+}
+
+/// The state where two numbers, of which something is known, compare so: where that denies it, the state is unreachable.
+pub fn compared(
+    context: Context,
+    state: &State,
+    by: Compare,
+    a: Limits,
+    b: Limits,
+) -> Result<State, Stop>
+    ensures { IfOk result (λ after. ComparesState context.entry state.now by a.entry b.entry after) }
+{
+    let mut after = with_comparison(context, state, by, a, b)?;
+    if is_denied(view_of(context, state), by, a, b) {
+        make_unreachable(&mut after);
+    }
+    Ok(after)
 }
 
 /// A state with more facts, of which none but these change.

@@ -5,7 +5,7 @@ ghost use Rattle.ctd_states.specs.declared.assign.Context.{Context};
 ghost use Rattle.ctd_partitions.specs.calls.States.{IsViewOf};
 
 use ctd_elements::{AbstractState, Fact};
-use ctd_states::{AbstractValue, Context, Stop};
+use ctd_states::{AbstractValue, Context, PossibleValues, Stop};
 use std::alloc::Global;
 
 /// A state: the abstract value of each name, and facts.
@@ -23,6 +23,22 @@ pub fn view_of<'s>(context: Context<'s>, state: &'s State) -> AbstractState<'s>
         names: context.names,
         entries: state.entries.as_slice(),
         facts: state.facts.as_slice(),
+    }
+}
+
+/// Makes a state unreachable: the entry behind the last name, which no variable has, neither has a value nor lacks one. No contract speaks of it,
+/// since all is so where no run comes.
+pub fn make_unreachable(state: &mut State) {
+    let none = PossibleValues {
+        text: None,
+        number: None,
+    };
+    if let Some(entry) = state.entries.last_mut() {
+        *entry = AbstractValue {
+            may_lack: false,
+            alone: none,
+            elements: none,
+        };
     }
 }
 

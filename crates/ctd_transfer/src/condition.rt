@@ -14,13 +14,13 @@ ghost use Rattle.ctd_transfer.specs.calls.Results.{FailsBy, IsPossible};
 ghost use Rattle.ctd_transfer.specs.inner.Compared.{IsWhereSo};
 ghost use Rattle.ctd_transfer.specs.inner.Splits.{AreAlike, AreAllAlike, AreOne, AreSame, AreSameWith, HaveOneShape, HitsArray, SplitsBy, UniqueFailsBy};
 
-use crate::cut::{cut_both, expect_value, make_unreachable};
+use crate::cut::{cut_both, expect_value};
 use crate::expression::{Evaluation, evaluate};
 use crate::result::{PossibleResult, may_be_number, may_be_text, text_alone, text_faults};
 use ctd_element_changes::have_one_shape;
 use ctd_elements::Limits;
 use ctd_limits::as_limits;
-use ctd_partitions::{State, compared, copy_of_state, hit, view_of};
+use ctd_partitions::{State, compared, copy_of_state, hit, make_unreachable, view_of};
 use ctd_program::{Compare, Expr, Test};
 use ctd_range::opposite_of;
 use ctd_states::{

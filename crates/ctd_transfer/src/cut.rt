@@ -12,7 +12,7 @@ ghost use Rattle.ctd_transfer.specs.inner.Compared.{Cuts, CutsBoth, CutsOperand,
 
 use crate::expression::evaluate;
 use crate::result::{Operator, apply, of_values, range_of};
-use ctd_partitions::{State, copy_of_state};
+use ctd_partitions::{State, copy_of_state, make_unreachable};
 use ctd_program::{Compare, Expr};
 use ctd_range::{Range, is_empty, restrict};
 use ctd_states::{AbstractValue, Context, Lengths, PossibleValues, Stop, listed, replace_value};
@@ -41,22 +41,6 @@ fn has_no_value(possible: PossibleValues) -> bool
     match possible.number {
         Some(range) => is_empty(range),
         None => true,
-    }
-}
-
-/// Makes a state unreachable: the entry behind the last name, which no variable has, neither has a value nor lacks one. No contract speaks of it,
-/// since all is so where no run comes.
-pub(crate) fn make_unreachable(state: &mut State) {
-    let none = PossibleValues {
-        text: None,
-        number: None,
-    };
-    if let Some(entry) = state.entries.last_mut() {
-        *entry = AbstractValue {
-            may_lack: false,
-            alone: none,
-            elements: none,
-        };
     }
 }
 

@@ -1,13 +1,13 @@
 -- Events that are not noted never happen.
-use Rattle.ctd_traps.proofs.Common.{AreAbsent, Bool, CommandList, Contains, Contains-append_cases, Contains-append_left, Contains-append_right, Contains-push, Contains-push_cases, Event, EventKind}
+use Rattle.ctd_traps.proofs.Common.{AreAbsent, Bindings, Bool, CommandList, Contains, Context, Moment, Contains-append_cases, Contains-append_left, Contains-append_right, Contains-push, Contains-push_cases, Event, EventKind}
 use Rattle.ctd_traps.proofs.Common.{Fault, HasEachEvent, List, NeverHappens, Note, Noted, Place, PlacedEvent, Preset, [], answers, ap, arith, at_drop_more, begins, cond, drop, drop_all, event_of}
-use Rattle.ctd_traps.proofs.Common.{event_of_kind, events_of, fails, false, get_or, inl, inr, length, noted_in, refl, subst, sym, true, ℕ, ◌++◌, ◌+◌, ◌<◌, ◌∙◌, ◌∷◌, ◌≡◌, ◌≤◌, ◌⊎◌}
+use Rattle.ctd_traps.proofs.Common.{event_of_kind, events_of, fails, false, finds, get_or, inl, inr, length, noted_in, refl, subst, sym, true, ℕ, ◌++◌, ◌+◌, ◌<◌, ◌∙◌, ◌∷◌, ◌≡◌, ◌≤◌, ◌⊎◌}
 use Rattle.ctd_traps.specs.calls.Events.{goes_on}
 use Rattle.ctd_traps.specs.declared.note.EventKind.TheVariants as kinds
 use Rattle.ctd_traps.proofs.Noting.{events_both}
 
 -- elements of lists
-none_in : {X : Type 0} (x : X) → Contains [] x → ⊥
+pub none_in : {X : Type 0} (x : X) → Contains [] x → ⊥
 none_in x has = omega (arith, has.1)
 
 only_or_none : {X : Type 0} (y x : X) → Contains [] x ⊎ (y ≡ x) → y ≡ x
@@ -18,7 +18,7 @@ either_part : {X : Type 0} (y : X) (ys : List X) (x : X) → Contains (y ∷ [])
 either_part y ys x (inl one) = inl (only_or_none y x (Contains-push_cases [] y x one))
 either_part y ys x (inr rest) = inr rest
 
-first_or_rest : {X : Type 0} (y : X) (ys : List X) (x : X) → Contains (y ∷ ys) x → (y ≡ x) ⊎ Contains ys x
+pub first_or_rest : {X : Type 0} (y : X) (ys : List X) (x : X) → Contains (y ∷ ys) x → (y ≡ x) ⊎ Contains ys x
 first_or_rest y ys x has = either_part y ys x (Contains-append_cases (y ∷ []) ys x has)
 
 in_front : {X : Type 0} (y : X) (ys : List X) → Contains (y ∷ ys) y
@@ -46,6 +46,7 @@ note_of (x ∷ notes) e has = note_first x notes e (note_of notes e) (first_or_r
 -- the kind of an event
 abbrev kind_back : Event → EventKind
 kind_back begins = kinds.Begins
+kind_back (finds moment h) = kinds.Begins
 kind_back goes_on = kinds.GoesOn
 kind_back (answers true) = kinds.IsTrue
 kind_back (answers false) = kinds.IsFalse
@@ -112,13 +113,26 @@ no_fault_in never place fault has = let n : NoteOf never (record { place = place
     of_kind kinds.IsTrue is = cc
     of_kind kinds.IsFalse is = cc
 
+-- that variables are found is not among the events
+nothing_found_in : (never : List Note) (place : Place) (moment : Moment) (h : Bindings) → Contains (events_of never) (record { place = place; event = finds moment h }) → ⊥
+nothing_found_in never place moment h has =
+    let n : NoteOf never (record { place = place; event = finds moment h }) = note_of never (record { place = place; event = finds moment h }) has in
+    of_kind n.note.kind (ap (λ (e : PlacedEvent). e.event) n.is)
+  where
+    of_kind : (k : EventKind) → event_of_kind k ≡ finds moment h → ⊥
+    of_kind kinds.Begins is = cc
+    of_kind kinds.GoesOn is = cc
+    of_kind kinds.IsTrue is = cc
+    of_kind kinds.IsFalse is = cc
+
 -- what is not noted never happens, where all that happens is noted
-pub never_happens : (program : CommandList) (presets : List Preset) (noted : Noted) (never : List Note) → HasEachEvent program presets (noted_in noted) → AreAbsent noted.events.items never → NeverHappens program presets (events_of never)
-never_happens program presets noted never each absent mode d steps n s t task rest place event less skipped comes happens listed =
+pub never_happens : (g : Context) (program : CommandList) (presets : List Preset) (noted : Noted) (never : List Note) → HasEachEvent program presets (noted_in g noted) → AreAbsent noted.events.items never → NeverHappens program presets (events_of never)
+never_happens g program presets noted never each absent mode d steps n s t task rest place event less skipped comes happens listed =
     of_event event (each mode d steps n s t task rest place event less skipped comes happens) listed
   where
-    of_event : (event : Event) → noted_in noted place event → Contains (events_of never) (record { place = place; event = event }) → ⊥
+    of_event : (event : Event) → noted_in g noted place event → Contains (events_of never) (record { place = place; event = event }) → ⊥
     of_event begins is listed = absent (record { place = place; event = begins }) listed is
+    of_event (finds moment h) is listed = nothing_found_in never place moment h listed
     of_event goes_on is listed = absent (record { place = place; event = goes_on }) listed is
     of_event (answers b) is listed = absent (record { place = place; event = answers b }) listed is
     of_event (fails fault) is listed = no_fault_in never place fault listed

@@ -23,7 +23,7 @@ pub use Rattle.ctd_outcome.specs.declared.reason.Fault.{Fault}
 pub use Rattle.ctd_outcome.specs.declared.reason.Reason.TheVariants.{AssertFailed, ExpectedEof, ExpectedInt, ExpectedNewline, ExpectedSpace, LeadingZero, MinusZero, OutOfRange, StringMismatch}
 pub use Rattle.ctd_outcome.specs.declared.reason.Reason.{Reason}
 pub use Rattle.ctd_partitions.specs.calls.Partitions.{OneStands, PartitionIsWithin, IsInPartition, IsUpperBound}
-pub use Rattle.ctd_partitions.specs.calls.States.{IsCopyOf, IsPinnedBy, PaysOne, StateStands}
+pub use Rattle.ctd_partitions.specs.calls.States.{IsCopyOf, IsPinnedBy, IsStateWithin, PaysOne, StateStands}
 pub use Rattle.ctd_partitions.specs.inner.States.{IsNever}
 pub use Rattle.ctd_partitions.specs.declared.state.State.{State as AbstractState}
 pub use Rattle.ctd_pattern.specs.Pattern.{length_at_start}
@@ -87,9 +87,12 @@ pub use Rattle.ctd_transfer.specs.declared.transfer.StatesAfter.{StatesAfter}
 pub use Rattle.ctd_transfer.specs.declared.variable.StateAfter.{StateAfter}
 pub use Rattle.ctd_traps.specs.calls.Collector.{Adds}
 pub use Rattle.ctd_traps.specs.calls.Commands.{all_commands, commands_within, separator_commands}
-pub use Rattle.ctd_traps.specs.calls.Events.{Comes, Event, Events, Happens, HasEachEvent, NeverHappens, PlacedEvent, answers, assert_answers, at_once, begins, by_step, command_begins, command_goes_on, event_of, event_of_kind, events_of, fails, if_answers, task_fails, turn_answers}
+pub use Rattle.ctd_traps.specs.calls.Events.{Comes, Event, Events, Happens, HasEachEvent, NeverHappens, PlacedEvent, answers, assert_answers, at_once, begins, by_step, command_begins, command_finds, command_goes_on, end_finds, event_of, event_of_kind, events_of, fails, finds, if_answers, program_end, task_fails, turn_answers, turn_finds}
 pub use Rattle.ctd_traps.specs.calls.Laws.{ComesAsItRuns, EachEndIsReached, EndsAt, IsAt}
 pub use Rattle.ctd_traps.specs.calls.Traps.{HasEachTrap, IsOfValue, PlacedFault, fault_of, fault_of_kind, faults_of}
+pub use Rattle.ctd_traps.specs.declared.joined.JoinedState.{JoinedState}
+pub use Rattle.ctd_traps.specs.declared.joined.JoinedStates.{JoinedStates}
+pub use Rattle.ctd_traps.specs.declared.joined.Moment.{Moment}
 pub use Rattle.ctd_traps.specs.declared.note.EventKind.{EventKind}
 pub use Rattle.ctd_traps.specs.declared.note.Note.{Note}
 pub use Rattle.ctd_traps.specs.declared.note.Noted.{Noted}
@@ -101,9 +104,10 @@ pub use Rattle.ctd_traps.specs.declared.turn.Phase.{Phase}
 pub use Rattle.ctd_traps.specs.declared.start.Turns.{Turns}
 pub use Rattle.ctd_traps.specs.inner.Absent.{AreAbsent, HasAll, has_key, key_of}
 pub use Rattle.ctd_traps.specs.inner.Holds.{AreListed, ArePart, Holds, PinsAreIn}
+pub use Rattle.ctd_traps.specs.inner.Joined.{AreWithin, Describes, IsAdded, IsFound, IsOf, IsWithin, OneDescribes}
 pub use Rattle.ctd_traps.specs.inner.Listed.{trees_in}
-pub use Rattle.ctd_traps.specs.inner.Noted.{AreNoted, IsPart, NotedIn, noted_in}
-pub use Rattle.ctd_traps.specs.inner.Passages.{BegunFrom, IsJoined, IsOneOf, IsSameOrNone, Passes, PassesOnceBegun}
+pub use Rattle.ctd_traps.specs.inner.Noted.{AreNoted, BeginsBy, BegunIn, FoundIn, IsPart, NotedIn, noted_in}
+pub use Rattle.ctd_traps.specs.inner.Passages.{BegunFrom, IsEither, IsJoined, IsOneOf, IsSameOrNone, Passes, PassesOnceBegun}
 pub use Rattle.ctd_traps.specs.inner.PostFixpoint.{Candidate, InTurn, IsPostFixpoint}
 pub use Rattle.ctd_traps.specs.inner.Sparing.{Spares, SparesAll, SparesBetween, SparesEach, SparesLoop, SparesNames, SparesTarget, SparesTurns, SparesVariable}
 pub use Rattle.ctd_traps.specs.inner.Triples.{Before, CommandLeads, GoesOn, Leads, Leaves, LoopLeads, Safe, Splits, TurnLeads}

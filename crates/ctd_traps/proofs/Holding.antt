@@ -69,8 +69,8 @@ answer_same t d s u b is = same_state (truth t s.store d s.offset) s u b is
 
 -- a test, or the begin of a turn, whose answers and faults are noted
 pub splits_noted : (g : Context) (noted : Noted) (place : Place) (f : Faults) (pins : Variables) (inside outside : List AbstractState) (n : ℕ) (a : Effect Bool) → n < 2 ^ 64 → NotedIn g noted place (answers true) inside → NotedIn g noted place (answers false) outside → AreNoted noted place f →
-    Fits f (λ b t. ByTurn (StaysIn g pins inside n) (StaysIn g pins outside n) b t) a → Splits (noted_in noted) place (Holds g pins inside n) (Holds g pins outside n) a
+    Fits f (λ b t. ByTurn (StaysIn g pins inside n) (StaysIn g pins outside n) b t) a → Splits (noted_in g noted) place (Holds g pins inside n) (Holds g pins outside n) a
 splits_noted g noted place f pins inside outside n (done true t) less if_true if_false faults fits = record { event = if_true n t.store fits.1; holds = holds_of g pins inside n t less fits }
 splits_noted g noted place f pins inside outside n (done false t) less if_true if_false faults fits = record { event = if_false n t.store fits.1; holds = holds_of g pins outside n t less fits }
 splits_noted g noted place f pins inside outside n (rejected reason consumed) less if_true if_false faults fits = tt
-splits_noted g noted place f pins inside outside n (faulty fault consumed) less if_true if_false faults fits = λ of_value. faults fault of_value fits
+splits_noted g noted place f pins inside outside n (faulty fault consumed) less if_true if_false faults fits = λ of_value. faults g fault of_value fits

@@ -1,13 +1,14 @@
 -- Lists, simple commands, choices and loops: what they lead to, over the tasks of a run.
 use Rattle.ctd_program.specs.Tree
-use Rattle.ctd_traps.proofs.Common.{Act, At, Before, Bool, CommandLeads, CommandList, CommandTree, Effect, Event, Events, Fault, GoesOn, Guard, GuardTree, Happens, IsOfValue, IsSimple, Leads, Leaves}
+use Rattle.ctd_traps.proofs.Common.{Act, At, Before, BeginsBy, Bindings, Bool, CommandLeads, CommandList, CommandTree, Effect, Event, Events, Fault, GoesOn, Guard, GuardTree, Happens, IsOfValue, IsSimple, Leads, Leaves, Moment}
 use Rattle.ctd_traps.proofs.Common.{List, LoopLeads, Option, Place, Safe, Separator, Splits, Task, TestData, TestTree, TurnLeads, VarTree, [], answer, answers, ap, append_assoc, arith, at_once, begins, by_step}
-use Rattle.ctd_traps.proofs.Common.{command, command_begins, command_goes_on, done, fails, false, faulty, guard_of, if_answers, if◌then◌else◌, is_assert, is_eof, is_int, is_newline, is_regex, is_set}
+use Rattle.ctd_traps.proofs.Common.{command, command_begins, command_finds, command_goes_on, done, fails, false, faulty, finds, guard_of, if_answers, if◌then◌else◌, is_assert, is_eof, is_int, is_newline, is_regex, is_set}
 use Rattle.ctd_traps.proofs.Common.{is_space, is_string, is_unset, le_refl, le_trans, loop_of, perform, place_of, proceed, refl, rejected, separator_before, simple, site_of, start, subst, suc, sym}
-use Rattle.ctd_traps.proofs.Common.{take_turn, task_fails, tasks, tasks_before_turn, true, turn, turn_answers, turn_tasks, zero, ℕ, ⊤, ◌++◌, ◌∙◌, ◌∷◌, ◌≡◌, ◌≤◌}
+use Rattle.ctd_traps.proofs.Common.{take_turn, task_fails, tasks, tasks_before_turn, true, turn, turn_answers, turn_finds, turn_tasks, zero, ℕ, ⊤, ◌++◌, ◌∙◌, ◌∷◌, ◌≡◌, ◌≤◌}
 use Rattle.ctd_command.specs.State.{State}
 use Rattle.ctd_check.specs.Loops.{Loop}
 use Rattle.ctd_traps.specs.calls.Events.{goes_on}
+use Rattle.ctd_traps.specs.declared.joined.Moment.TheVariants as moments
 
 -- no step is left
 pub safe_without_steps : (d : TestData) (events : Events) (ts : List Task) (s : State) → Safe d events 0 ts s
@@ -75,21 +76,25 @@ no_tasks x = []
 
 -- all that happens at a task: it begins, it has answers, or it fails
 all_are_events : {A : Type 0} (d : TestData) (events : Events) (task : Task) (at : Place) (s : State) (after : A → State → Type 0) (f : A → List Task) (a : Effect A) → site_of task ≡ At at → perform task d s ≡ leaving f a → Leaves events at after a →
-    ((place : Place) → Happens d task s place begins → events place begins) → ((place : Place) → Happens d task s place goes_on → events place goes_on) → ((place : Place) (b : Bool) → Happens d task s place (answers b) → events place (answers b)) → (place : Place) (event : Event) → Happens d task s place event → events place event
-all_are_events d events task at s after f a site act leaves begun gone answered place begins happens = begun place happens
-all_are_events d events task at s after f a site act leaves begun gone answered place goes_on happens = gone place happens
-all_are_events d events task at s after f a site act leaves begun gone answered place (answers b) happens = answered place b happens
-all_are_events d events task at s after f a site act leaves begun gone answered place (fails fault) (task_fails {consumed} other of_value is) =
+    ((place : Place) → Happens d task s place begins → events place begins) → ((place : Place) (moment : Moment) (h : Bindings) → Happens d task s place (finds moment h) → events place (finds moment h)) → ((place : Place) → Happens d task s place goes_on → events place goes_on) → ((place : Place) (b : Bool) → Happens d task s place (answers b) → events place (answers b)) → (place : Place) (event : Event) → Happens d task s place event → events place event
+all_are_events d events task at s after f a site act leaves begun found gone answered place begins happens = begun place happens
+all_are_events d events task at s after f a site act leaves begun found gone answered place (finds moment h) happens = found place moment h happens
+all_are_events d events task at s after f a site act leaves begun found gone answered place goes_on happens = gone place happens
+all_are_events d events task at s after f a site act leaves begun found gone answered place (answers b) happens = answered place b happens
+all_are_events d events task at s after f a site act leaves begun found gone answered place (fails fault) (task_fails {consumed} other of_value is) =
     subst (λ p. events p (fails fault)) (same_place at place (sym site ∙ other)) (fault_is_event events at after f a fault consumed leaves of_value (sym act ∙ is))
 
-begun_at : (d : TestData) (events : Events) (c : CommandTree) (s : State) → events (place_of c) begins → (place : Place) → Happens d (start c) s place begins → events place begins
-begun_at d events c s note place (command_begins) = note
+begun_at : (d : TestData) (events : Events) (c : CommandTree) (s : State) → BeginsBy events (place_of c) s → (place : Place) → Happens d (start c) s place begins → events place begins
+begun_at d events c s note place (command_begins) = note.begun
+
+found_at : (d : TestData) (events : Events) (c : CommandTree) (s : State) → BeginsBy events (place_of c) s → (place : Place) (moment : Moment) (h : Bindings) → Happens d (start c) s place (finds moment h) → events place (finds moment h)
+found_at d events c s note place moment h (command_finds) = note.found
 
 gone_at : (d : TestData) (events : Events) (c : CommandTree) (s : State) → ((more : List Task) (t : State) → perform (start c) d s ≡ done more t → events (place_of c) goes_on) → (place : Place) → Happens d (start c) s place goes_on → events place goes_on
 gone_at d events c s note place (command_goes_on {more} {t} is) = note more t is
 
 -- a simple command is safe if it begins, goes on and answers by events, and what is to be done then is safe
-pub simple_is_safe : (d : TestData) (events : Events) (after : Before) (c : CommandTree) (m : Act ⊤) (ts : List Task) (n : ℕ) (s : State) → IsSimple c m → events (place_of c) begins →
+pub simple_is_safe : (d : TestData) (events : Events) (after : Before) (c : CommandTree) (m : Act ⊤) (ts : List Task) (n : ℕ) (s : State) → IsSimple c m → BeginsBy events (place_of c) s →
     ((t : State) → after n t → events (place_of c) goes_on) →
     ((place : Place) (b : Bool) → Happens d (start c) s place (answers b) → events place (answers b)) →
     Leaves events (place_of c) (λ _ t. after n t) (m d s) → GoesOn d events (suc n) after ts → Safe d events (suc n) (start c ∷ ts) s
@@ -98,7 +103,7 @@ simple_is_safe d events after c m ts n s simple begun gone answered leaves next 
     let was : (more : List Task) (t : State) → perform (start c) d s ≡ done more t → WasDone no_tasks (λ _ u. after n u) more t =
     λ more t is. was_done events (place_of c) (λ _ u. after n u) no_tasks (m d s) more t leaves (sym act ∙ is) in
     safe_task d events n (start c) ts s
-    (all_are_events d events (start c) (place_of c) s (λ _ t. after n t) no_tasks (m d s) refl act leaves (begun_at d events c s begun)
+    (all_are_events d events (start c) (place_of c) s (λ _ t. after n t) no_tasks (m d s) refl act leaves (begun_at d events c s begun) (found_at d events c s begun)
     (gone_at d events c s (λ more t is. gone t (was more t is).holds)) answered)
     (λ more t is. subst (λ l. Safe d events n (l ++ ts) t) (was more t is).tasks (next n t (omega arith) (was more t is).holds))
 
@@ -139,7 +144,7 @@ pub fewer_go_on : (d : TestData) (events : Events) (n m : ℕ) (after : Before) 
 fewer_go_on d events n m after ts less next l t fewer here = next l t (le_trans fewer less) here
 
 pub choice_leads : (d : TestData) (events : Events) (place : Place) (test : TestTree) (then_do else_do : CommandList) (before if_true if_false after : Before) →
-    ((n : ℕ) (s : State) → before (suc n) s → events place begins) → ((n : ℕ) (t : State) → if_true n t → events place goes_on) → ((n : ℕ) (t : State) → if_false n t → events place goes_on) →
+    ((n : ℕ) (s : State) → before (suc n) s → BeginsBy events place s) → ((n : ℕ) (t : State) → if_true n t → events place goes_on) → ((n : ℕ) (t : State) → if_false n t → events place goes_on) →
     ((n : ℕ) (s : State) → before (suc n) s → Splits events place (if_true n) (if_false n) (answer test d s)) →
     Leads d events if_true then_do after → Leads d events if_false else_do after → CommandLeads d events before (Tree.choice place test then_do else_do) after
 choice_leads d events place test then_do else_do before if_true if_false after begun if_gone else_gone split left right ts zero s here next = safe_without_steps d events (start (Tree.choice place test then_do else_do) ∷ ts) s
@@ -150,7 +155,7 @@ choice_leads d events place test then_do else_do before if_true if_false after b
     let a : Effect Bool = answer test d s in
     let leaves : Leaves events place (ByAnswer P Q) a = split_leaves events place P Q a (split n s here) in
     safe_task d events n (start c) ts s
-    (all_are_events d events (start c) place s (ByAnswer P Q) (branch then_do else_do) a refl refl leaves (begun_at d events c s (begun n s here))
+    (all_are_events d events (start c) place s (ByAnswer P Q) (branch then_do else_do) a refl refl leaves (begun_at d events c s (begun n s here)) (found_at d events c s (begun n s here))
     (gone_at d events c s (λ more t is. let was : WasDone (branch then_do else_do) (ByAnswer P Q) more t = was_done events place (ByAnswer P Q) (branch then_do else_do) a more t leaves is in
     answer_goes_on events place P Q was.answer t (if_gone n) (else_gone n) was.holds)) (if_answered d events place test then_do else_do P Q s (split n s here)))
     (λ more t is. let was : WasDone (branch then_do else_do) (ByAnswer P Q) more t = was_done events place (ByAnswer P Q) (branch then_do else_do) a more t leaves is in
@@ -163,6 +168,9 @@ turn_answered d events loop k P Q s splits place b (turn_answers {t} is) = answe
 
 no_begin : (d : TestData) (events : Events) (loop : Loop) (k : ℕ) (s : State) (place : Place) → Happens d (turn loop k) s place begins → events place begins
 no_begin d events loop k s place happens = elim happens [ ]
+
+turn_ended : (d : TestData) (events : Events) (loop : Loop) (k : ℕ) (s : State) → ((j : ℕ) → k ≡ suc j → events loop.place (finds moments.TurnEnded s.store)) → (place : Place) (moment : Moment) (h : Bindings) → Happens d (turn loop k) s place (finds moment h) → events place (finds moment h)
+turn_ended d events loop k s note place moment h (turn_finds {k = j}) = note j refl
 
 no_going : (d : TestData) (events : Events) (loop : Loop) (k : ℕ) (s : State) (place : Place) → Happens d (turn loop k) s place goes_on → events place goes_on
 no_going d events loop k s place happens = elim happens [ ]
@@ -202,7 +210,7 @@ turn_leads d events loop k head inside within end after leads (suc n) ts s later
     let splits : Splits events loop.place P Q a = leads.begin n s here in
     let leaves : Leaves events loop.place (ByAnswer P Q) a = split_leaves events loop.place P Q a splits in
     safe_task d events n (turn loop k) ts s
-    (all_are_events d events (turn loop k) loop.place s (ByAnswer P Q) (turn_leaves loop k) a refl refl leaves (no_begin d events loop k s) (no_going d events loop k s) (turn_answered d events loop k P Q s splits))
+    (all_are_events d events (turn loop k) loop.place s (ByAnswer P Q) (turn_leaves loop k) a refl refl leaves (no_begin d events loop k s) (turn_ended d events loop k s (λ j is. leads.ended j n s is here)) (no_going d events loop k s) (turn_answered d events loop k P Q s splits))
     (λ more t is. let was : WasDone (turn_leaves loop k) (ByAnswer P Q) more t = was_done events loop.place (ByAnswer P Q) (turn_leaves loop k) a more t leaves is in
     subst (λ l. Safe d events n (l ++ ts) t) was.tasks
     (turn_is_safe d events loop k head inside within end after leads n ts (later n (le_refl (suc n))) was.answer t was.holds (fewer_go_on d events (suc n) n after ts (omega arith) next)))
@@ -233,7 +241,7 @@ no_answer : (d : TestData) (events : Events) (at : Place) (of : GuardTree) (coun
 no_answer d events at of counter sep body s place b happens = elim happens [ ]
 
 pub start_leads : (d : TestData) (events : Events) (place : Place) (of : GuardTree) (counter : Option VarTree) (sep : Separator) (body : CommandList) (before after : Before) →
-    ((n : ℕ) (s : State) → before (suc n) s → events place begins) →
+    ((n : ℕ) (s : State) → before (suc n) s → BeginsBy events place s) →
     ((n : ℕ) (s : State) → before (suc n) s → Leaves events place (λ g t. StartsSafe d events place n after (loop_of place g counter sep body) t) (guard_of of d s)) → CommandLeads d events before (Tree.loop place of counter sep body) after
 start_leads d events place of counter sep body before after begun starts ts zero s here next = safe_without_steps d events (start (Tree.loop place of counter sep body) ∷ ts) s
 start_leads d events place of counter sep body before after begun starts ts (suc n) s here next =
@@ -242,5 +250,5 @@ start_leads d events place of counter sep body before after begun starts ts (suc
     let P : Guard → State → Type 0 = λ g t. StartsSafe d events place n after (by g) t in
     let was : (more : List Task) (t : State) → perform (start c) d s ≡ done more t → WasDone (first_turn_of by) P more t = λ more t is. was_done events place P (first_turn_of by) (guard_of of d s) more t (starts n s here) is in
     safe_task d events n (start c) ts s
-    (all_are_events d events (start c) place s P (first_turn_of by) (guard_of of d s) refl refl (starts n s here) (begun_at d events c s (begun n s here)) (gone_at d events c s (λ more t is. (was more t is).holds.gone)) (no_answer d events place of counter sep body s))
+    (all_are_events d events (start c) place s P (first_turn_of by) (guard_of of d s) refl refl (starts n s here) (begun_at d events c s (begun n s here)) (found_at d events c s (begun n s here)) (gone_at d events c s (λ more t is. (was more t is).holds.gone)) (no_answer d events place of counter sep body s))
     (λ more t is. subst (λ l. Safe d events n (l ++ ts) t) (was more t is).tasks ((was more t is).holds.safe ts (fewer_go_on d events (suc n) n after ts (omega arith) next)))

@@ -18,3 +18,8 @@ pub mod Framing
 pub mod Holding
 pub mod Looping
 pub mod Unrolling
+pub mod Widening
+pub mod Knowing
+pub mod Ending
+pub mod Failing
+pub mod Joining

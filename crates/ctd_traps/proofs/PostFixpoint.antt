@@ -1,7 +1,7 @@
 -- A candidate that is inductive is kept by the loop.
 use Rattle.ctd_traps.proofs.Common.{AbstractState, AreCounted, Bindings, Candidate, Context, Counting, Events, GoesOn, HasNumber, Holds, HoldsBeside, InTurn, IsPostFixpoint}
 use Rattle.ctd_traps.proofs.Common.{IsSpared, Leads, List, None, Option, PartitionIsWithin, Safe, Some, SparesBetween, SparesEach, SparesLoop, SparesTurns, Splits, Task, TestData, Unchanged, VarTree, Variables}
-use Rattle.ctd_traps.proofs.Common.{arith, boxed_separator, boxed_target, command_list, out-Loop, separator_before, suc, take_turn, turn, zero, ℕ, ◌∙◌, ◌∷◌, ◌≤◌}
+use Rattle.ctd_traps.proofs.Common.{arith, boxed_separator, boxed_target, command_list, finds, out-Loop, separator_before, suc, take_turn, turn, zero, ℕ, ◌∙◌, ◌∷◌, ◌≡◌, ◌≤◌}
 use Rattle.ctd_program.specs.Tree
 use Rattle.ctd_program.specs.declared.tree.Loop.{Loop}
 use Rattle.ctd_command.specs.State.{State}
@@ -9,6 +9,7 @@ use Rattle.ctd_check.specs.Loops.{Loop as Started}
 use Rattle.ctd_traps.proofs.Framing.{fewer_same, framed_leads, then_same}
 use Rattle.ctd_traps.proofs.Holding.{tells_holds}
 use Rattle.ctd_traps.proofs.Leading.{loop_leads, none_leads, weaker_leads}
+use Rattle.ctd_traps.specs.declared.joined.Moment.TheVariants as moments
 
 -- the states of turn 0, or of a later turn
 abbrev by_turn : List AbstractState → List AbstractState → ℕ → List AbstractState
@@ -57,10 +58,15 @@ goes_round d g pins events l counting loop h c keeps k =
     (λ n m s t less here end same. in_turn_kept g pins l counting loop h c.before_body c.later (λ name. SparesEach name (command_list (out-Loop l).body)) k n m s t keeps.counted (λ name spared. spared.1) less here
     (tells_holds g pins c.after_body c.later keeps.again m t end) same)
 
+ended_turn : (d : TestData) (g : Context) (pins : Variables) (events : Events) (l : Loop) (counting : Counting) (loop : Started) (h : Bindings) (c : Candidate) → IsPostFixpoint d g pins events l counting loop h c → (k j n : ℕ) (s : State) → k ≡ suc j →
+    InTurn g pins l counting loop h (by_turn c.first c.later k) k (suc n) s → events loop.place (finds moments.TurnEnded s.store)
+ended_turn d g pins events l counting loop h c keeps zero j n s is here = absurd (omega (arith, is))
+ended_turn d g pins events l counting loop h c keeps (suc k) j n s is here = keeps.ended (suc n) s here.holds
+
 -- then the loop keeps it, from its begin to its end
 pub post_fixpoints_lead : (d : TestData) (g : Context) (pins : Variables) (events : Events) (l : Loop) (counting : Counting) (loop : Started) (h : Bindings) (c : Candidate) → IsPostFixpoint d g pins events l counting loop h c →
     (n : ℕ) (ts : List Task) (s : State) → InTurn g pins l counting loop h c.first 0 n s → GoesOn d events n (HoldsBeside g pins c.after (λ name. SparesLoop name l) h) ts → Safe d events n (turn loop 0 ∷ ts) s
 post_fixpoints_lead d g pins events l counting loop h c keeps n ts s here next =
     loop_leads d events loop (λ k. InTurn g pins l counting loop h (by_turn c.first c.later k) k) (λ k. InTurn g pins l counting loop h (by_turn c.first_inside c.later_inside k) (suc k)) (λ k. InTurn g pins l counting loop h c.before_body (suc k))
     (HoldsBeside g pins c.after (λ name. SparesLoop name l) h)
-    (λ k. record { begin = begins_turn d g pins events l counting loop h c keeps k; separator = separates d g pins events l counting loop h c keeps k; body = goes_round d g pins events l counting loop h c keeps k }) 0 n ts s here next
+    (λ k. record { ended = ended_turn d g pins events l counting loop h c keeps k; begin = begins_turn d g pins events l counting loop h c keeps k; separator = separates d g pins events l counting loop h c keeps k; body = goes_round d g pins events l counting loop h c keeps k }) 0 n ts s here next

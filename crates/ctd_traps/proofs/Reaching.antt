@@ -1,15 +1,17 @@
 -- From what commands lead to, to the events of a run and its traps; and that the relation of events is the run.
 use Rattle.ctd_traps.proofs.Common.{Accepted, At, Before, Comes, ComesAsItRuns, CommandList, Contains, EachEndIsReached, Effect, EndsAt, Event, Events, Fault, Happens, HasEachEvent, HasEachTrap, IsAt}
 use Rattle.ctd_traps.proofs.Common.{IsOfValue, Leads, List, Mode, Outcome, Place, PlacedFault, Preset, RunResult, Safe, Site, Spot, Start, StepLimit, Stopped, Task, TestData, [], all_done, ap}
-use Rattle.ctd_traps.proofs.Common.{at_once, at_start, by_step, done, end, fails, faulty, finish, first_skip, perform, place_of, proceed, refl, rejected, resume, run, run_from, site_of, start}
+use Rattle.ctd_traps.proofs.Common.{at_once, at_start, by_step, done, end, end_finds, fails, faulty, finds, finish, first_skip, perform, place_of, proceed, program_end, refl, rejected, resume, run, run_from, site_of, start}
 use Rattle.ctd_traps.proofs.Common.{stopped, subst, suc, sym, task_fails, tasks, turn, with_steps, zero, ℕ, ⊤, ◌++◌, ◌<◌, ◌^◌, ◌∙◌, ◌∷◌, ◌≡◌}
 use Rattle.ctd_command.specs.State.{State}
 use Rattle.ctd_traps.proofs.Leading.{safe_at_end}
+use Rattle.ctd_traps.specs.declared.joined.Moment.TheVariants as moments
 
--- the end of a program: nothing happens there at a place
-end_is_safe : (d : TestData) (events : Events) (n : ℕ) (s : State) → Safe d events n (finish ∷ []) s
-end_is_safe d events n s m task rest u place event (at_once) (task_fails site of_value is) = absurd (cc)
-end_is_safe d events n s m task rest u place event (by_step {n = i} {more} {t} is comes) happens =
+-- the end of a program: variables are found there, and nothing else happens
+end_is_safe : (d : TestData) (events : Events) (n : ℕ) (s : State) → events program_end (finds moments.Done s.store) → Safe d events n (finish ∷ []) s
+end_is_safe d events n s found m task rest u place event (at_once) (task_fails site of_value is) = absurd (cc)
+end_is_safe d events n s found m task rest u place event (at_once) (end_finds) = found
+end_is_safe d events n s found m task rest u place event (by_step {n = i} {more} {t} is comes) happens =
     let none : more ≡ [] = left_none (end d s) more t is in
     safe_at_end d events i t m task rest u place event (subst (λ l. Comes d i (l ++ []) t (suc m) (task ∷ rest) u) none comes) happens
   where
@@ -21,9 +23,9 @@ end_is_safe d events n s m task rest u place event (by_step {n = i} {more} {t} i
 -- the events of a program that its commands lead through
 pub events_follow : (program : CommandList) (presets : List Preset) (events : Events) (before after : Before) →
     ((mode : Mode) (d : TestData) (n : ℕ) (s : State) → n < 2 ^ 64 → first_skip d (at_start mode presets) ≡ done tt s → before n s) →
-    ((d : TestData) → Leads d events before program after) → HasEachEvent program presets events
-events_follow program presets events before after first leads mode d steps n s t task rest place event less skipped comes happens =
-    leads d (finish ∷ []) steps s (first mode d steps s less skipped) (λ m u fewer here. end_is_safe d events m u) n task rest t place event comes happens
+    ((d : TestData) → Leads d events before program after) → ((n : ℕ) (s : State) → after n s → events program_end (finds moments.Done s.store)) → HasEachEvent program presets events
+events_follow program presets events before after first leads ends mode d steps n s t task rest place event less skipped comes happens =
+    leads d (finish ∷ []) steps s (first mode d steps s less skipped) (λ m u fewer here. end_is_safe d events m u (ends m u here)) n task rest t place event comes happens
 
 -- a run comes to a task that fails
 record ComesToFault (d : TestData) (n : ℕ) (ts : List Task) (s : State) (site : Site) (fault : Fault) : Type 0 where

@@ -1,14 +1,14 @@
 -- From what commands lead to, to the theorems.
-use Rattle.ctd_traps.proofs.Common.{AbstractState, Bindings, BlanksOk, Bool, CommandList, Context, Effect, Err, Events, Exact, ExpectedEof, HasEachEvent, HasEachTrap, Holds, IsOfValue, List, LookFault}
+use Rattle.ctd_traps.proofs.Common.{AbstractState, Bindings, BlanksOk, Bool, CommandList, Context, Effect, Err, Events, Exact, ExpectedEof, FoundIn, HasEachEvent, HasEachTrap, Holds, IsOfValue, IsPart, List, LookFault}
 use Rattle.ctd_traps.proofs.Common.{Mode, None, Noted, Ok, OneStands, Option, PinsAreIn, PinsStand, PlacedFault, Preset, Result, Some, SparesEach, TestData, Value, Variables, WalkKeeps, ap, at_key, at_start}
 use Rattle.ctd_traps.proofs.Common.{done, each_same, end, end_in, eof, false, fault_of_look, faulty, first_skip, if◌then◌else◌, initial, is_blank, is_end, lift, next_byte, noted_in, option_or, pins_alone}
-use Rattle.ctd_traps.proofs.Common.{pins_in, pins_of, prefix_len, proceed, refl, reject, rejected, return, see_next, skip_blanks, start_in, subst, sym, true, value_at, value_under, visible, with_fault, ℕ, ⊤}
+use Rattle.ctd_traps.proofs.Common.{pins_in, pins_of, prefix_len, proceed, program_end, refl, reject, rejected, return, see_next, skip_blanks, start_in, subst, sym, true, value_at, value_under, visible, with_fault, ℕ, ⊤}
 use Rattle.ctd_traps.proofs.Common.{◌+◌, ◌<◌, ◌^◌, ◌≡◌}
 use Rattle.ctd_source.specs.declared.spot.LookFault.TheVariants as looks
 use Rattle.ctd_command.specs.State.{State}
 use Rattle.ctd_traps.proofs.Framing.{framed_leads}
-use Rattle.ctd_traps.proofs.Noting.{part_refl}
 use Rattle.ctd_traps.proofs.Reaching.{AreTraps, NoFault, events_follow, traps_are_events}
+use Rattle.ctd_traps.specs.declared.joined.Moment.TheVariants as moments
 
 -- an effect with no fault of a value
 abbrev OnlyLooks : {A : Type 0} → Effect A → Type 0
@@ -89,12 +89,13 @@ first_holds presets g first stand tells mode d n s less skipped =
     }
 
 -- all that happens is noted
-pub events_noted : (program : CommandList) (presets : List Preset) (g : Context) (first last : List AbstractState) (noted : Noted) → PinsStand (pins_in g) (pins_of presets) → PinsAreIn g first → WalkKeeps g first last noted program → HasEachEvent program presets (noted_in noted)
-events_noted program presets g first last noted stand tells keeps =
+pub events_noted : (program : CommandList) (presets : List Preset) (g : Context) (first last : List AbstractState) (walked noted : Noted) → PinsStand (pins_in g) (pins_of presets) → PinsAreIn g first → WalkKeeps g first last walked program → IsPart g walked noted → FoundIn g noted program_end moments.Done last → HasEachEvent program presets (noted_in g noted)
+events_noted program presets g first last walked noted stand tells keeps part found =
     let pins : Variables = pins_of presets in
-    events_follow program presets (noted_in noted) (Holds g pins first) (Holds g pins last) (first_holds presets g first stand tells)
-    (λ d. framed_leads d (noted_in noted) program (Holds g pins first) (Holds g pins last) (Holds g pins first) (Holds g pins last) (λ name. SparesEach name program) (λ h. keeps pins d noted h stand (part_refl noted))
+    events_follow program presets (noted_in g noted) (Holds g pins first) (Holds g pins last) (first_holds presets g first stand tells)
+    (λ d. framed_leads d (noted_in g noted) program (Holds g pins first) (Holds g pins last) (Holds g pins first) (Holds g pins last) (λ name. SparesEach name program) (λ h. keeps pins d noted h stand part)
     (λ n s here. here) (λ n m s t less here end same. end))
+    (λ n s here. found n s.store here.one)
 
 -- and so is each trap
 pub traps_noted : (program : CommandList) (presets : List Preset) (events : Events) (traps : List PlacedFault) → AreTraps events traps → HasEachEvent program presets events → HasEachTrap program presets traps

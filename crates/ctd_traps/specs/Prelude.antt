@@ -42,6 +42,9 @@ pub use Rattle.ctd_transfer.specs.calls.Acts.{Fits, StaysIn}
 pub use Rattle.ctd_transfer.specs.declared.answer.SplitStates.{SplitStates}
 pub use Rattle.ctd_traps.specs.declared.block.CommandInBlock.{CommandInBlock}
 pub use Rattle.ctd_traps.specs.declared.collector.Collector.{Collector}
+pub use Rattle.ctd_traps.specs.declared.joined.JoinedState.{JoinedState}
+pub use Rattle.ctd_traps.specs.declared.joined.JoinedStates.{JoinedStates}
+pub use Rattle.ctd_traps.specs.declared.joined.Moment.{Moment}
 pub use Rattle.ctd_traps.specs.declared.note.EventKind.{EventKind}
 pub use Rattle.ctd_traps.specs.declared.note.Note.{Note}
 pub use Rattle.ctd_traps.specs.declared.note.Noted.{Noted}

@@ -1,11 +1,14 @@
-//! What a walk may cost.
+//! What a walk may cost, and what it keeps.
 
 use ctd_partitions::State;
 use ctd_program::{Action, Command};
 use ctd_states::Stop;
 
-/// What the steps of a walk may cost, by the cost of a name in a state: some tenths of a second.
-const STEPS: u64 = 400_000;
+/// What the steps of a walk may cost, by the cost of a name in a state: about a second.
+const STEPS: u64 = 3_000_000;
+
+/// What one pass may cost once these steps are spent: about a second more.
+const LAST_STEPS: u64 = 4_000_000;
 
 /// What a step costs in any case.
 const STEP: u64 = 4;
@@ -22,27 +25,37 @@ const CANDIDATE: u64 = 48;
 /// One way through a loop, where there are several, has this part of the steps that are left.
 const PART: u64 = 4;
 
-/// What the steps of a walk may still cost; from how much on other ways through a loop are tried; and whether the walk is in a loop that has a
-/// candidate for which the loops in it have candidates too.
+/// What the steps of a walk may still cost, and what one pass may cost once they are spent; from how much on other ways through a loop are tried;
+/// whether the walk is in a loop that has a candidate for which the loops in it have candidates too; and whether it keeps the states in which it
+/// comes to places.
 #[derive(Drop)]
 pub(crate) struct Budget {
     steps: u64,
+    last_steps: u64,
     reserve: u64,
     pub(crate) is_inner: bool,
+    pub(crate) with_states: bool,
 }
 
 /// A budget of which one half is for other ways through loops.
-fn budget_of(steps: u64) -> Budget {
+fn budget_of(steps: u64, last_steps: u64, with_states: bool) -> Budget {
     Budget {
         steps,
+        last_steps,
         reserve: steps / 2,
         is_inner: false,
+        with_states,
     }
 }
 
 /// The budget of a walk.
-pub(crate) fn whole_budget() -> Budget {
-    budget_of(STEPS)
+pub(crate) fn whole_budget(with_states: bool) -> Budget {
+    budget_of(STEPS, LAST_STEPS, with_states)
+}
+
+/// Whether the steps are spent, so that one pass is left in which each loop is walked once.
+pub(crate) fn is_spent(budget: &Budget) -> bool {
+    budget.steps == 0
 }
 
 /// Whether other ways through a loop may be tried.
@@ -50,9 +63,9 @@ pub(crate) fn may_try(budget: &Budget) -> bool {
     !budget.is_inner && budget.steps > budget.reserve
 }
 
-/// A part of the budget, for one way through a loop.
+/// A part of the budget, for one way through a loop: once it is spent, this way is given up.
 pub(crate) fn part_of(budget: &Budget) -> Budget {
-    budget_of(budget.steps / PART)
+    budget_of(budget.steps / PART, 0, budget.with_states)
 }
 
 /// Pays what was paid of its part.
@@ -96,10 +109,15 @@ fn cost_of_candidates(states: &[State]) -> u64 {
     cost
 }
 
-/// Pays a step.
+/// Pays a step. Where the steps are spent, one pass pays what is left.
 fn pay_step(budget: &mut Budget, cost: u64) -> Result<(), Stop> {
     let cost = cost.saturating_add(STEP);
-    budget.steps = budget.steps.checked_sub(cost).ok_or(Stop::GaveUp)?;
+    if let Some(left) = budget.steps.checked_sub(cost) {
+        budget.steps = left;
+        return Ok(());
+    }
+    budget.steps = 0;
+    budget.last_steps = budget.last_steps.checked_sub(cost).ok_or(Stop::GaveUp)?;
     Ok(())
 }
 

@@ -1,9 +1,12 @@
-//! Where a run of a program may stop without a verdict, and what never happens in its runs.
+//! Where a run of a program may stop without a verdict, what never happens in its runs, and what is known of its variables.
 #![tactic(auto)]
 
+mod anything;
 mod block;
 mod budget;
 mod collector;
+mod joined;
+mod known;
 mod lasting;
 mod mentions;
 mod names;
@@ -20,9 +23,12 @@ mod trap;
 mod turn;
 mod unroll;
 mod walk;
+mod widest;
 
 pub use block::{CommandInBlock, all_commands};
 pub use collector::Collector;
+pub use joined::Moment;
+pub use known::{Knowledge, Known, KnownAt};
 pub use mentions::{MentionedName, Use, all_mentions, list_mentions, mentions_of};
 pub use note::{EventKind, Note};
 pub use program::{TrapList, events_are_of_the_run, traps};

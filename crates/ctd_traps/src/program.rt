@@ -1,22 +1,26 @@
 //! The traps of a program.
 
-ghost use Rattle.std.specs.Prelude.{ℕ, [], IfOk, IfSome, List, OnOk};
+ghost use Rattle.std.specs.Prelude.{◌≡◌, ℕ, [], IfOk, IfSome, List, None, OnOk};
 ghost use Rattle.ctd_program.specs.calls.View.{command_trees};
 ghost use Rattle.ctd_store.specs.Store.{Variables, value_of, with_pin};
 ghost use Rattle.ctd_store.specs.inner.Store.{pins_of};
 ghost use Rattle.ctd_traps.specs.calls.Traps.{HasEachTrap, faults_of};
-ghost use Rattle.ctd_traps.specs.calls.Events.{HasEachEvent, NeverHappens, events_of};
+ghost use Rattle.ctd_traps.specs.calls.Events.{NeverHappens, events_of};
+ghost use Rattle.ctd_traps.specs.calls.Known.{EachAcceptedHas, EachFinds};
 ghost use Rattle.ctd_traps.specs.calls.Laws.{ComesAsItRuns, EachEndIsReached};
 ghost use Rattle.ctd_traps.specs.inner.Holds.{PinsAreIn};
-ghost use Rattle.ctd_traps.specs.inner.Noted.{noted_in};
+ghost use Rattle.ctd_traps.specs.inner.Knowing.{IsAnalysis};
 ghost use Rattle.ctd_states.specs.calls.States.{MayBe, PinsStand, pins_in, named_values, entries_in};
 ghost use Rattle.std.specs.Borrow.{Bor};
 
+use crate::anything::all_traps;
 use crate::budget::whole_budget;
+use crate::joined::Moment;
+use crate::known::{END, Knowledge, knowledge_of};
 use crate::names::{Mentioned, mentioned_in};
 use crate::never::absent_in;
-use crate::note::{Note, Noted, nothing_noted};
-use crate::trap::{Trap, in_text_order};
+use crate::note::{Note, Noted, note_states, nothing_noted};
+use crate::trap::Trap;
 use crate::walk::walk;
 use ctd_partitions::{State, join_state};
 use ctd_program::{Command, Preset, PresetValue, Presets};
@@ -25,6 +29,7 @@ use ctd_states::{
     AbstractValue, Context, Lengths, Pair, PossibleValues, Stop, assign_alone, assign_element,
     copy_of,
 };
+use ctd_token::Place;
 use std::alloc::{AllocError, Global};
 
 /// No values.
@@ -101,12 +106,22 @@ fn pin_all(without: Context, presets: &[Preset]) -> Result<Vec<AbstractValue>, S
     Ok(entries)
 }
 
-/// The traps of a program, what never happens, and the names to which the traps refer.
+/// The traps of a program, what never happens, what is known of the variables, if that was asked for, the names to which traps and knowledge refer, and
+/// the first command from which on less is known, since the program takes long to analyse.
 #[derive(Drop)]
 pub struct TrapList<'p> {
     pub traps: Vec<Trap>,
     pub never: Vec<Note>,
+    pub knowledge: Option<Knowledge>,
     pub names: Vec<&'p [u8]>,
+    pub less_known: Option<Place>,
+}
+
+/// What is noted of a program, and what is known of its variables, if that is asked for.
+#[derive(Drop)]
+pub(crate) struct Analysis {
+    pub(crate) noted: Noted,
+    pub(crate) knowledge: Option<Knowledge>,
 }
 
 /// The state before the first command of a program with these names.
@@ -136,15 +151,16 @@ fn first_state(context: Context) -> Result<Vec<State>, Stop>
     join_state(context, Vec::new(context.alloc), State { entries, facts })
 }
 
-/// Where a run of some commands with these names may stop by a fault of a value, and what else may happen where.
-fn events_in(
+/// Where a run of some commands with these names may stop by a fault of a value, what else may happen where, and what is known of the variables.
+fn analyze(
     alloc: Global,
     commands: &[Command],
     presets: &Presets,
+    with_knowledge: bool,
     names: &[&[u8]],
     pairs: &[Pair],
-) -> Result<Noted, Stop>
-    ensures { IfOk result (λ noted. HasEachEvent (command_trees commands.now) presets.now (noted_in noted)) }
+) -> Result<Analysis, Stop>
+    ensures { IfOk result (λ analysis. IsAnalysis names.now (command_trees commands.now) presets.now analysis) }
 {
     let pinned = state_before(alloc, presets, names)?;
     let context = Context {
@@ -154,36 +170,84 @@ fn events_in(
         pairs,
     };
     let first = first_state(context)?;
-    let mut noted = nothing_noted(alloc);
-    let mut budget = whole_budget();
-    walk(commands, context, first, &mut noted, &mut budget)?;
-    Ok(noted)
+    let mut noted = nothing_noted(alloc, with_knowledge);
+    let mut budget = whole_budget(with_knowledge);
+    let last = walk(commands, context, first, &mut noted, &mut budget)?;
+    note_states(END, Moment::Done, context, last.as_slice(), &mut noted)?;
+    let knowledge = knowledge_of(context, commands, &noted.joined)?;
+    Ok(Analysis { noted, knowledge })
 }
 
-/// The places at which a run of some commands may stop by a fault of a value, and what never happens in a run, whatever the data, the mode and
-/// the limit of steps; none where they are too large to tell. An error where memory ran out.
+/// The place of the first of some commands, if there is one.
+fn first_place(commands: &[Command]) -> Option<Place> {
+    match commands.first() {
+        Some(command) => Some(command.place),
+        None => None,
+    }
+}
+
+/// What is told of a program of which nothing is known: each fault that its commands can have.
+fn unknown<'p>(
+    alloc: Global,
+    commands: &'p [Command],
+    presets: &'p Presets,
+    names: Vec<&'p [u8]>,
+) -> Result<TrapList<'p>, AllocError>
+    ensures each { IfOk result (λ list. HasEachTrap (command_trees commands.now) presets.now (faults_of list.traps.items)) }
+    ensures never { IfOk result (λ list. NeverHappens (command_trees commands.now) presets.now (events_of list.never.items)) }
+    ensures nothing { IfOk result (λ list. list.knowledge ≡ None) }
+{
+    let traps = all_traps(alloc, commands)?;
+    Ok(TrapList {
+        traps,
+        never: Vec::new(alloc),
+        knowledge: None,
+        names,
+        less_known: first_place(commands),
+    })
+}
+
+/// The places at which a run of some commands may stop by a fault of a value, what never happens in a run, and, if it is asked for, what is known of
+/// the variables, whatever the data, the mode and the limit of steps. An error where memory ran out.
 pub fn traps<'p>(
     alloc: Global,
     commands: &'p [Command],
     presets: &'p Presets,
-) -> Result<Option<TrapList<'p>>, AllocError>
-    ensures each { IfOk result (λ answer. IfSome answer (λ list. HasEachTrap (command_trees commands.now) presets.now (faults_of list.traps.items))) }
-    ensures never { IfOk result (λ answer. IfSome answer (λ list. NeverHappens (command_trees commands.now) presets.now (events_of list.never.items))) }
+    with_knowledge: bool,
+) -> Result<TrapList<'p>, AllocError>
+    ensures each { IfOk result (λ list. HasEachTrap (command_trees commands.now) presets.now (faults_of list.traps.items)) }
+    ensures never { IfOk result (λ list. NeverHappens (command_trees commands.now) presets.now (events_of list.never.items)) }
+    ensures finds { IfOk result (λ list. IfSome list.knowledge (λ k. EachFinds (command_trees commands.now) presets.now list.names.items k.at_places.items)) }
+    ensures ends { IfOk result (λ list. IfSome list.knowledge (λ k. EachAcceptedHas (command_trees commands.now) presets.now list.names.items k.at_end)) }
 {
     let Mentioned { names, pairs } = mentioned_in(alloc, commands, presets)?;
-    match events_in(alloc, commands, presets, names.as_slice(), pairs.as_slice()) {
-        Ok(noted) => {
-            let Noted { traps, events } = noted;
-            let traps = in_text_order(traps)?;
+    match analyze(
+        alloc,
+        commands,
+        presets,
+        with_knowledge,
+        names.as_slice(),
+        pairs.as_slice(),
+    ) {
+        Ok(analysis) => {
+            let Analysis { noted, knowledge } = analysis;
+            let Noted {
+                traps,
+                events,
+                less_known,
+                ..
+            } = noted;
             let never = absent_in(alloc, commands, events.as_slice())?;
-            Ok(Some(TrapList {
+            Ok(TrapList {
                 traps,
                 never,
+                knowledge,
                 names,
-            }))
+                less_known,
+            })
         }
         Err(Stop::Memory) => Err(AllocError),
-        Err(Stop::GaveUp) => Ok(None),
+        Err(Stop::GaveUp) => unknown(alloc, commands, presets, names),
     }
 }
 

@@ -7,7 +7,7 @@ ghost use Rattle.ctd_traps.specs.calls.Events.{goes_on};
 ghost use Rattle.ctd_traps.specs.inner.Noted.{IsPart, NotedIn};
 ghost use Rattle.ctd_traps.specs.inner.Walk.{AreBranches, Asks, StepKeeps};
 
-use crate::note::{EventKind, Noted, note_answers, note_event, note_faults, note_run};
+use crate::note::{EventKind, Noted, note_answers, note_begin, note_event, note_faults, note_run};
 use ctd_partitions::{State, join_partitions};
 use ctd_program::{Command, Test};
 use ctd_states::{Context, Stop};
@@ -21,12 +21,18 @@ pub(crate) fn take(
     states: &[State],
     noted: &mut Noted,
 ) -> Result<Vec<State>, Stop>
-    ensures more { OnOk result (IsPart noted.old noted.new) }
+    ensures more { OnOk result (IsPart context.entry noted.old noted.new) }
     ensures keeps { IfOk result (λ after. StepKeeps context.entry states.now after.items noted.new (command_tree command.now)) }
 {
     let acted = transfer_each(command, context, states)?;
     note_faults(command.place, acted.faults, noted)?;
-    note_run(command.place, states, acted.after.as_slice(), noted)?;
+    note_run(
+        command.place,
+        context,
+        states,
+        acted.after.as_slice(),
+        noted,
+    )?;
     Ok(acted.after)
 }
 
@@ -38,11 +44,11 @@ fn ask(
     states: &[State],
     noted: &mut Noted,
 ) -> Result<SplitStates, Stop>
-    ensures more { OnOk result (IsPart noted.old noted.new) }
+    ensures more { OnOk result (IsPart context.entry noted.old noted.new) }
     ensures asks { IfOk result (λ s. Asks context.entry states.now s.if_true.items s.if_false.items (test_tree t.now) s.faults noted.new place) }
 {
     let divided = divide(context, t, states)?;
-    note_event(place, EventKind::Begins, states, noted)?;
+    note_begin(place, context, states, noted)?;
     note_faults(place, divided.faults, noted)?;
     note_answers(
         place,
@@ -61,7 +67,7 @@ pub(crate) fn assert(
     states: &[State],
     noted: &mut Noted,
 ) -> Result<Vec<State>, Stop>
-    ensures more { OnOk result (IsPart noted.old noted.new) }
+    ensures more { OnOk result (IsPart context.entry noted.old noted.new) }
     ensures keeps { IfOk result (λ after. StepKeeps context.entry states.now after.items noted.new (Tree.assert place (test_tree t.now))) }
 {
     let asked = ask(t, place, context, states, noted)?;
@@ -77,7 +83,7 @@ pub(crate) fn ask_branches(
     states: &[State],
     noted: &mut Noted,
 ) -> Result<SplitStates, Stop>
-    ensures more { OnOk result (IsPart noted.old noted.new) }
+    ensures more { OnOk result (IsPart context.entry noted.old noted.new) }
     ensures asks { IfOk result (λ s. Asks context.entry states.now s.if_true.items s.if_false.items (test_tree t.now) s.faults noted.new place) }
     ensures on_true { IfOk result (λ s. NotedIn context.entry noted.new place goes_on s.if_true.items) }
     ensures on_false { IfOk result (λ s. NotedIn context.entry noted.new place goes_on s.if_false.items) }

@@ -1,11 +1,11 @@
 //! A trap: where a run may stop, and by which fault.
 
-ghost use Rattle.std.specs.Prelude.{◌≡◌, true, OnOk, IfOk, Contains};
-ghost use Rattle.ctd_traps.specs.calls.Traps.{fault_of_kind, faults_of};
+ghost use Rattle.std.specs.Prelude.{◌≡◌, ◌<◌, ◌≤◌, true, get_or, length, OnOk, IfOk, IfErr, Contains};
+ghost use Rattle.ctd_traps.specs.calls.Traps.{fault_of, fault_of_kind, faults_of};
 ghost use Rattle.ctd_traps.specs.inner.Holds.{AreListed, ArePart};
 ghost use Rattle.ctd_states.specs.calls.Faults.{IsOfKind};
 
-use ctd_states::{Faults, Operand, TrapKind, has};
+use ctd_states::{Faults, Operand, TrapKind, has, join_operands};
 use ctd_token::Place;
 use std::alloc::AllocError;
 
@@ -80,19 +80,60 @@ fn is_kind(a: TrapKind, b: TrapKind) -> bool
     }
 }
 
-/// Whether a trap of a kind is listed at a place.
-fn is_listed(place: Place, kind: TrapKind, traps: &[Trap]) -> bool
-    ensures { result ≡ true → Contains (faults_of traps.now) (record { place = place; fault = fault_of_kind kind }) }
+/// Of some traps in the order of the text, how many stand before a place.
+fn count_before(place: Place, traps: &[Trap]) -> usize
+    ensures { result ≤ length traps.now }
 {
-    for trap in traps {
-        if trap.place == place && is_kind(trap.kind, kind) {
-            return true;
-        }
-    }
-    false
+    traps.partition_point(|trap: &Trap| -> bool {
+        (trap.place.line, trap.place.column) < (place.line, place.column)
+    })
 }
 
-/// Adds a trap of a kind, if there is such a fault and none is listed at the place.
+/// Where the trap of a kind at a place stands in a list in the order of the text, or else where it has to stand.
+fn search(place: Place, kind: TrapKind, traps: &[Trap]) -> Result<usize, usize>
+    ensures inside { IfOk result (λ i. i < length traps.now) }
+    ensures same { IfOk result (λ i. (t : Trap) → t ≡ get_or traps.now i t → fault_of t ≡ record { place = place; fault = fault_of_kind kind }) }
+    ensures free { IfErr result (λ i. i ≤ length traps.now) }
+{
+    for i in count_before(place, traps)..traps.len() {
+        if traps[i].place != place {
+            return Err(i);
+        }
+        if is_kind(traps[i].kind, kind) {
+            return Ok(i);
+        }
+    }
+    Err(traps.len())
+}
+
+/// Adds a trap to a list in the order of the text. If it is listed, what is to blame is to blame by both.
+pub(crate) fn add_trap(trap: Trap, traps: &mut Vec<Trap>) -> Result<(), AllocError>
+    ensures more { OnOk result (ArePart (faults_of traps.old.items) (faults_of traps.new.items)) }
+    ensures listed { OnOk result (Contains (faults_of traps.new.items) (fault_of trap)) }
+{
+    match search(trap.place, trap.kind, traps.as_slice()) {
+        Ok(i) => {
+            let old = traps.remove(i);
+            let operand = join_operands(old.operand, trap.operand);
+            traps.insert(i, Trap { operand, ..trap })?;
+        }
+        Err(i) => traps.insert(i, trap)?,
+    }
+    Ok(())
+}
+
+/// Adds each of some traps to a list in the order of the text.
+pub(crate) fn add_traps(more: &[Trap], traps: &mut Vec<Trap>) -> Result<(), AllocError>
+    ensures more { OnOk result (ArePart (faults_of traps.old.items) (faults_of traps.new.items)) }
+    ensures added { OnOk result (ArePart (faults_of more.now) (faults_of traps.new.items)) }
+{
+    for trap in more {
+        add_trap(*trap, traps)?;
+    }
+    Ok(())
+}
+
+/// Adds a trap of a kind to a list in the order of the text, if there is such a fault.
 fn report_kind(
     place: Place,
     faults: &Faults,
@@ -105,18 +146,16 @@ fn report_kind(
     if !has(faults, kind) {
         return Ok(());
     }
-    if is_listed(place, kind, traps.as_slice()) {
-        return Ok(());
-    }
-    traps.push(Trap {
+    let operand = operand_of(faults, kind);
+    let trap = Trap {
         place,
         kind,
-        operand: operand_of(faults, kind),
-    })?;
-    Ok(())
+        operand,
+    };
+    add_trap(trap, traps)
 }
 
-/// Adds a trap for each of some faults at a place, unless it is listed there.
+/// Adds a trap for each of some faults at a place to a list in the order of the text.
 pub(crate) fn report(place: Place, faults: Faults, traps: &mut Vec<Trap>) -> Result<(), AllocError>
     ensures more { OnOk result (ArePart (faults_of traps.old.items) (faults_of traps.new.items)) }
     ensures listed { OnOk result (AreListed (faults_of traps.new.items) place faults) }
@@ -125,13 +164,4 @@ pub(crate) fn report(place: Place, faults: Faults, traps: &mut Vec<Trap>) -> Res
         report_kind(place, &faults, *kind, traps)?;
     }
     Ok(())
-}
-
-/// Traps in the order of the text. An error where memory ran out.
-pub(crate) fn in_text_order(traps: Vec<Trap>) -> Result<Vec<Trap>, AllocError>
-    ensures { IfOk result (λ sorted. ArePart (faults_of traps.items) (faults_of sorted.items)) }
-{
-    let mut sorted = traps;
-    sorted.sort_by_key(|trap| (trap.place.line, trap.place.column))?;
-    Ok(sorted)
 }

@@ -6,7 +6,7 @@ ghost use Rattle.ctd_traps.specs.inner.Unrolled.{BeginsAt};
 
 use crate::block::{CommandInBlock, all_commands};
 use crate::mentions::{MentionedName, Use, all_mentions, mentions_of};
-use crate::note::{Noted, note_answers, note_faults};
+use crate::note::{Noted, note_answers, note_faults, note_turn};
 use crate::start::Turns;
 use crate::turn::{Counting, LoopEntry, Phase, enter};
 use ctd_partitions::State;
@@ -135,10 +135,11 @@ pub(crate) fn begin_turn(
     states: &[State],
     noted: &mut Noted,
 ) -> Result<LoopEntry, Stop>
-    ensures more { OnOk result (IsPart noted.old noted.new) }
+    ensures more { OnOk result (IsPart context.entry noted.old noted.new) }
     ensures begins { IfOk result (λ e. BeginsAt context.entry states.now counting.now e.inside.items e.outside.items e.faults noted.new place repeated.now k) }
 {
     let begun = enter(repeated, Phase::At(k), counting, context, states)?;
+    note_turn(place, context, k, states, noted)?;
     note_faults(place, begun.faults, noted)?;
     note_answers(
         place,

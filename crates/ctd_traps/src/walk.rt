@@ -9,27 +9,25 @@ ghost use Rattle.ctd_traps.specs.inner.Passages.{BegunFrom, Passes, PassesOnceBe
 ghost use Rattle.ctd_traps.specs.inner.Unrolled.{SeparatesAt, TurnKeeps};
 ghost use Rattle.ctd_traps.specs.inner.Walk.{RoundKeeps, SeparatorKeeps, StepKeeps, WalkKeeps, choice_at, loop_at};
 
-use crate::budget::{Budget, may_try, part_of, pay, pay_part, pay_round, pay_turn};
+use crate::budget::{Budget, is_spent, may_try, part_of, pay, pay_part, pay_round, pay_turn};
 use crate::note::{Noted, note_all, note_faults, nothing_noted};
 use crate::passage::{
-    Passage, Round, begin_later, is_inductive, join_outside, none_if_given_up, note_start,
-    with_fewer_traps,
+    Passage, Round, Tried, begin_later, is_enough, is_inductive, join_outside, later_of,
+    next_candidate, none_if_given_up, note_start, with_fewer_traps,
 };
 use crate::simple::{ask_branches, assert, join_branches, take};
 use crate::turn::{Counting, LoopStart, begin};
 use crate::unroll::{
     TURNS, begin_turn, facts_allowed, has_few_turns, has_inner_loop, have_few_facts, is_plain,
 };
-use ctd_partitions::{State, join_partitions, widen_partition};
+use crate::widest::{widest_candidate, without_facts};
+use ctd_partitions::{State, join_partitions};
 use ctd_program::{Action, Choice, Command, Commands, Loop};
 use ctd_states::{Context, Stop};
 use ctd_token::Place;
 
 /// How many candidates for the invariant of a loop are tried.
 const ROUNDS: usize = 14;
-
-/// From which round on a candidate was widened. Once it is inductive, it is narrowed to the states at the end of a turn.
-const WIDENED: usize = 3;
 
 /// The states behind some commands.
 #[cycle(walk)]
@@ -40,7 +38,7 @@ pub(crate) fn walk(
     noted: &mut Noted,
     budget: &mut Budget,
 ) -> Result<Vec<State>, Stop>
-    ensures more { OnOk result (IsPart noted.old noted.new) }
+    ensures more { OnOk result (IsPart context.entry noted.old noted.new) }
     ensures keeps { IfOk result (λ after. WalkKeeps context.entry states.items after.items noted.new (command_trees commands.now)) }
 {
     let mut after = states;
@@ -59,13 +57,13 @@ fn walk_block(
     noted: &mut Noted,
     budget: &mut Budget,
 ) -> Result<Vec<State>, Stop>
-    ensures more { OnOk result (IsPart noted.old noted.new) }
+    ensures more { OnOk result (IsPart context.entry noted.old noted.new) }
     ensures keeps { IfOk result (λ after. WalkKeeps context.entry states.items after.items noted.new (command_list block.now)) }
 {
     walk(block.as_slice(), context, states, noted, budget)
 }
 
-/// The states behind a command.
+/// The states behind a command. Once the steps are spent, no facts are known before it.
 #[cycle(walk)]
 fn step(
     command: &Command,
@@ -74,10 +72,29 @@ fn step(
     noted: &mut Noted,
     budget: &mut Budget,
 ) -> Result<Vec<State>, Stop>
-    ensures more { OnOk result (IsPart noted.old noted.new) }
+    ensures more { OnOk result (IsPart context.entry noted.old noted.new) }
     ensures keeps { IfOk result (λ after. StepKeeps context.entry states.now after.items noted.new (command_tree command.now)) }
 {
     pay(budget, command, states)?;
+    if !is_spent(budget) {
+        return act(command, context, states, noted, budget);
+    }
+    let wider = without_facts(context, states)?;
+    act(command, context, wider.as_slice(), noted, budget)
+}
+
+/// The states behind a command that is paid.
+#[cycle(walk)]
+fn act(
+    command: &Command,
+    context: Context,
+    states: &[State],
+    noted: &mut Noted,
+    budget: &mut Budget,
+) -> Result<Vec<State>, Stop>
+    ensures more { OnOk result (IsPart context.entry noted.old noted.new) }
+    ensures keeps { IfOk result (λ after. StepKeeps context.entry states.now after.items noted.new (command_tree command.now)) }
+{
     let place = command.place;
     match &command.action {
         Action::Space
@@ -104,7 +121,7 @@ fn choose(
     noted: &mut Noted,
     budget: &mut Budget,
 ) -> Result<Vec<State>, Stop>
-    ensures more { OnOk result (IsPart noted.old noted.new) }
+    ensures more { OnOk result (IsPart context.entry noted.old noted.new) }
     ensures keeps { IfOk result (λ after. StepKeeps context.entry states.now after.items noted.new (choice_at place choice.now)) }
 {
     let Choice {
@@ -127,7 +144,7 @@ fn separate(
     noted: &mut Noted,
     budget: &mut Budget,
 ) -> Result<Vec<State>, Stop>
-    ensures more { OnOk result (IsPart noted.old noted.new) }
+    ensures more { OnOk result (IsPart context.entry noted.old noted.new) }
     ensures keeps { IfOk result (λ after. SeparatorKeeps context.entry states.items after.items noted.new (boxed_separator between.now)) }
 {
     match between {
@@ -147,7 +164,7 @@ fn go_round(
     noted: &mut Noted,
     budget: &mut Budget,
 ) -> Result<Round, Stop>
-    ensures more { OnOk result (IsPart noted.old noted.new) }
+    ensures more { OnOk result (IsPart context.entry noted.old noted.new) }
     ensures keeps { IfOk result (λ r. RoundKeeps context.entry candidate.now begun.now.counting begun.now.first.inside.items begun.now.first.outside.items begun.now.first.faults r.outside.items r.end.items noted.new place repeated.now) }
 {
     let Loop { between, body, .. } = repeated;
@@ -172,7 +189,7 @@ fn separate_before(
     noted: &mut Noted,
     budget: &mut Budget,
 ) -> Result<Vec<State>, Stop>
-    ensures more { OnOk result (IsPart noted.old noted.new) }
+    ensures more { OnOk result (IsPart context.entry noted.old noted.new) }
     ensures keeps { IfOk result (λ after. SeparatesAt context.entry states.items after.items noted.new k (boxed_separator between.now)) }
 {
     if k == 0 {
@@ -193,7 +210,7 @@ fn take_turn(
     noted: &mut Noted,
     budget: &mut Budget,
 ) -> Result<Round, Stop>
-    ensures more { OnOk result (IsPart noted.old noted.new) }
+    ensures more { OnOk result (IsPart context.entry noted.old noted.new) }
     ensures keeps { IfOk result (λ r. TurnKeeps context.entry states.now counting.now r.outside.items r.end.items noted.new place repeated.now k) }
 {
     let Loop { between, body, .. } = repeated;
@@ -219,7 +236,7 @@ fn unroll(
 ) -> Result<Option<Passage>, Stop>
     ensures { IfOk result (λ answer. IfSome answer (λ p. Passes context.entry states.now counting.now place repeated.now p)) }
 {
-    let mut inside = nothing_noted(context.alloc);
+    let mut inside = nothing_noted(context.alloc, budget.with_states);
     note_faults(place, counting.turns.faults, &mut inside)?;
     let facts = facts_allowed(states);
     let mut before = join_partitions(context, Vec::new(context.alloc), states)?;
@@ -247,8 +264,72 @@ fn unroll(
     Ok(None)
 }
 
+/// Tries a candidate for the states before each turn but the first. Where it is the widest one, less is known of the loop.
+#[cycle(walk)]
+fn try_candidate(
+    repeated: &Loop,
+    place: Place,
+    context: Context,
+    begun: &LoopStart,
+    candidate: &[State],
+    less_known: Option<Place>,
+    budget: &mut Budget,
+) -> Result<Tried, Stop>
+    ensures { IfOk result (λ tried. IfSome tried.passage (λ p. PassesOnceBegun context.entry begun.now place repeated.now p)) }
+{
+    let mut inside = nothing_noted(context.alloc, budget.with_states);
+    inside.less_known = less_known;
+    let passed = go_round(
+        repeated,
+        place,
+        context,
+        begun,
+        candidate,
+        &mut inside,
+        budget,
+    )?;
+    let is_found = is_inductive(context, candidate, &passed);
+    let Round { outside, end } = passed;
+    if !is_found {
+        return Ok(Tried { passage: None, end });
+    }
+    let passage = join_outside(context, begun.first.outside.as_slice(), outside, inside)?;
+    Ok(Tried {
+        passage: Some(passage),
+        end,
+    })
+}
+
+/// The passage through a loop by the widest candidate, unless another was found.
+#[cycle(walk)]
+fn found_or_widest(
+    found: Option<Passage>,
+    repeated: &Loop,
+    place: Place,
+    context: Context,
+    begun: &LoopStart,
+    budget: &mut Budget,
+) -> Result<Option<Passage>, Stop>
+    ensures { IfOk result (λ answer. IfSome found (λ p. PassesOnceBegun context.entry begun.now place repeated.now p) → IfSome answer (λ p. PassesOnceBegun context.entry begun.now place repeated.now p)) }
+{
+    if found.is_some() {
+        return Ok(found);
+    }
+    let widest = widest_candidate(context)?;
+    let tried = try_candidate(
+        repeated,
+        place,
+        context,
+        begun,
+        widest.as_slice(),
+        Some(place),
+        budget,
+    )?;
+    Ok(tried.passage)
+}
+
 /// The passage through a loop by a candidate for the states before each turn but the first. It is widened until it is inductive, and then narrowed
-/// once. None where it is not inductive in the end.
+/// once; where this takes too long, the widest candidate is the last. None where that is not inductive.
 #[cycle(walk)]
 fn search(
     repeated: &Loop,
@@ -260,36 +341,28 @@ fn search(
     ensures { IfOk result (λ answer. IfSome answer (λ p. PassesOnceBegun context.entry begun.now place repeated.now p)) }
 {
     let mut candidate = Vec::new(context.alloc);
-    let mut is_narrowed = false;
+    let mut found = None;
     for round in 0..ROUNDS {
-        let mut inside = nothing_noted(context.alloc);
-        let passed = go_round(
+        if is_spent(budget) {
+            return found_or_widest(found, repeated, place, context, begun, budget);
+        }
+        let tried = try_candidate(
             repeated,
             place,
             context,
             begun,
             candidate.as_slice(),
-            &mut inside,
+            None,
             budget,
         )?;
-        if is_inductive(context, candidate.as_slice(), &passed) {
-            if is_narrowed || round < WIDENED {
-                let first = begun.first.outside.as_slice();
-                let passage = join_outside(context, first, passed.outside, inside)?;
-                return Ok(Some(passage));
-            }
-            is_narrowed = true;
-            candidate = passed.end;
-        } else {
-            candidate = widen_partition(
-                context,
-                candidate.as_slice(),
-                passed.end.as_slice(),
-                round,
-            )?;
+        if is_enough(&tried, &found, round) {
+            return Ok(tried.passage);
         }
+        candidate = next_candidate(context, candidate.as_slice(), &tried, round)?;
+        let later = later_of(found, tried.passage);
+        found = later;
     }
-    Ok(None)
+    found_or_widest(found, repeated, place, context, begun, budget)
 }
 
 /// The passage through a loop by a candidate, where the loops in it have candidates too.
@@ -367,7 +440,7 @@ fn pass(
     ensures { IfOk result (λ p. BegunFrom context.entry states.now begun.now repeated.now → Passes context.entry states.now begun.now.counting place repeated.now p) }
 {
     let counting = &begun.counting;
-    if is_plain(context.alloc, repeated, &counting.turns)? {
+    if !is_spent(budget) && is_plain(context.alloc, repeated, &counting.turns)? {
         if let Some(passage) = try_turns(repeated, place, context, counting, states, budget)? {
             return Ok(passage);
         }
@@ -395,12 +468,19 @@ fn repeat(
     noted: &mut Noted,
     budget: &mut Budget,
 ) -> Result<Vec<State>, Stop>
-    ensures more { OnOk result (IsPart noted.old noted.new) }
+    ensures more { OnOk result (IsPart context.entry noted.old noted.new) }
     ensures keeps { IfOk result (λ after. StepKeeps context.entry states.now after.items noted.new (loop_at place repeated.now)) }
 {
     let begun = begin(repeated, context, states)?;
-    note_start(&repeated.guard, place, &begun.counting.turns, states, noted)?;
+    note_start(
+        &repeated.guard,
+        place,
+        context,
+        &begun.counting.turns,
+        states,
+        noted,
+    )?;
     let Passage { after, inside } = pass(repeated, place, context, &begun, states, budget)?;
-    note_all(inside, noted)?;
+    note_all(context, inside, noted)?;
     Ok(after)
 }

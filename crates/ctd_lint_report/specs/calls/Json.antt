@@ -54,6 +54,14 @@ finding_object file f = said_text file f.place (rank_text (kind_row f.remark.kin
 abbrev pub trap_object : List ℕ → Option (List ℕ) → Trap → List ℕ
 trap_object file reason t = said_text file t.place (codes "risk") (trap_name t.kind) (trap_text t.kind) ++ optional_member (codes "reason") reason ++ codes "}\n"
 
+-- what is said of the command from which on less is known
+abbrev pub less_known_text : List ℕ
+less_known_text = codes "less is known from here on, since the program takes long to analyse"
+
+-- the command in a file from which on less is known
+abbrev pub less_known_object : List ℕ → Place → List ℕ
+less_known_object file p = head_text file (Some p) ++ member (codes "rank") (codes "note") ++ member (codes "text") less_known_text ++ codes "}\n"
+
 -- what may happen at a command: it begins, a run goes on behind it, or its test is true, or false
 abbrev pub event_name : EventKind → List ℕ
 event_name events.Begins = codes "begins"

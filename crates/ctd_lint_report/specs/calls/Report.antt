@@ -2,28 +2,28 @@
 use Rattle.ctd_findings.specs.declared.kind.Rank.TheVariants as ranks
 use Rattle.ctd_lint_report.specs.declared.setup.Form.TheVariants as forms
 use Rattle.ctd_token.specs.FaultText as faults
-use Rattle.std.specs.Prelude.{◌≡◌, ◌⊎◌, ◌+◌, ◌≤◌, ◌++◌, ◌&&◌, ℕ, Bool, List, [], ◌∷◌, All, length, max, codes, Option, Some, None, IfSome, if◌then◌else◌}
-use Rattle.ctd_lint_report.specs.Prelude.{BeforeAfter, Bor, CommandList, Finding, Form, GaveBytes, Ghosts, IsPlaced, IsTrueOfRuns, LintSetup, LoadFault, Loads, MayFail, NeverHappens, Note, PROGRAM_LIMIT, Place, Rank, Report}
+use Rattle.std.specs.Prelude.{◌≡◌, ◌⊎◌, ◌+◌, ◌≤◌, ◌++◌, ◌&&◌, ℕ, Bool, List, [], ◌∷◌, All, length, max, codes, Option, Some, None, if◌then◌else◌}
+use Rattle.ctd_lint_report.specs.Prelude.{BeforeAfter, CommandList, Finding, Form, GaveBytes, Ghosts, IsPlaced, IsTrueOfRuns, LintSetup, LoadFault, Loads, MayFail, NeverHappens, PROGRAM_LIMIT, Place, Rank, Report}
 use Rattle.ctd_lint_report.specs.Prelude.{Trap, TrapList, events_of, kind_row, list_any, on_err, on_out, places_of}
 use Rattle.ctd_lint_report.specs.calls.Kinds.{is_told_kind}
 use Rattle.ctd_lint_report.specs.calls.Reasons.{reason_of}
-use Rattle.ctd_lint_report.specs.calls.Text.{error_entry, findings_lines, kept, never_lines}
-use Rattle.ctd_lint_report.specs.calls.Traps.{AreTraps, Remarks, is_same_place, verdict_lines, verdict_status}
+use Rattle.ctd_lint_report.specs.calls.Text.{error_entry, findings_lines, kept, less_known_entry, never_lines}
+use Rattle.ctd_lint_report.specs.calls.Traps.{AreTraps, Remarks, is_same_place, kept_traps, traps_lines, verdict_lines, verdict_status}
 
 -- which remarks a report may have on a program in a file, whose traps are told
 abbrev pub Remarking : Type 1
-Remarking = List ℕ → LintSetup → CommandList → Option TrapList → Remarks → Type 0
+Remarking = List ℕ → LintSetup → CommandList → TrapList → Remarks → Type 0
 
 -- the remarks, then the traps, and then the line that tells of verdicts, if it is asked for
-abbrev pub program_lines : List ℕ → LintSetup → Remarks → Option TrapList → List ℕ
+abbrev pub program_lines : List ℕ → LintSetup → Remarks → TrapList → List ℕ
 program_lines file setup remarks trap_list = remarks.lines ++ verdict_lines file setup remarks trap_list
 
 -- the status: that of the remarks, and where verdicts are asked for the greater of it and theirs
-abbrev pub program_status : LintSetup → Remarks → Option TrapList → ℕ
+abbrev pub program_status : LintSetup → Remarks → TrapList → ℕ
 program_status setup remarks trap_list = if setup.verdicts then max remarks.status (verdict_status setup trap_list) else remarks.status
 
 -- the report on a program in a file
-abbrev pub program_report : List ℕ → LintSetup → Remarks → Option TrapList → Report
+abbrev pub program_report : List ℕ → LintSetup → Remarks → TrapList → Report
 program_report file setup remarks trap_list = on_out (program_lines file setup remarks trap_list) (program_status setup remarks trap_list)
 
 -- the report of an error: as text on standard error, and as JSON on standard output
@@ -45,7 +45,7 @@ pub record ReportsProgram {P : Type 0} {G : Ghosts P} (IsRemark : Remarking) (fi
   pub text : List ℕ
   pub gave_text : GaveBytes G program.old program.new text
   pub loads : Loads text (G.seen program.new) tree
-  pub trap_list : Option TrapList
+  pub trap_list : TrapList
   pub traps : AreTraps tree setup.presets trap_list
   pub remarks : Remarks
   pub remarked : IsRemark file setup tree trap_list remarks
@@ -84,30 +84,31 @@ tells f t = is_same_place f.place t.place && is_told_kind f.remark.kind t.kind
 abbrev pub is_told : List Finding → Trap → Bool
 is_told found t = list_any (λ f. tells f t) found
 
--- the names to which traps refer
-abbrev pub names_of : Option TrapList → List (Bor (List ℕ))
-names_of None = []
-names_of (Some list) = list.names.items
+-- what is written of where less is known, behind the lines of traps, if there are any
+abbrev pub less_known_lines : Form → List ℕ → List ℕ → Option Place → List ℕ
+less_known_lines form file [] less_known = []
+less_known_lines form file (b ∷ lines) None = []
+less_known_lines form file (b ∷ lines) (Some p) = less_known_entry form file p
 
--- what never happens, as the analysis found it
-abbrev pub never_of : Option TrapList → List Note
-never_of None = []
-never_of (Some list) = list.never.items
+-- what is told behind the traps: from which command on less is known, and what never happens
+abbrev pub notes_of : List ℕ → LintSetup → (Trap → Bool) → (Trap → Option (List ℕ)) → TrapList → List ℕ
+notes_of file setup told reason list =
+    less_known_lines setup.form file (traps_lines setup.form file reason (kept_traps setup told list.traps.items)) list.less_known ++ never_lines setup.form file list.never.items
 
 -- the remarks of some findings, but for those that are left out, and of what never happens
-abbrev pub remarks_of : List ℕ → LintSetup → List Finding → Option TrapList → Remarks
+abbrev pub remarks_of : List ℕ → LintSetup → List Finding → TrapList → Remarks
 remarks_of file setup found trap_list = record {
   lines = findings_lines setup.form file (kept setup.ignored.items found);
   status = findings_status (kept setup.ignored.items found);
   told = is_told (kept setup.ignored.items found);
-  reason = reason_of (names_of trap_list);
-  never = never_lines setup.form file (never_of trap_list);
+  reason = reason_of trap_list.names.items;
+  notes = notes_of file setup (is_told (kept setup.ignored.items found)) (reason_of trap_list.names.items) trap_list;
 }
 
 -- the remarks are those of some findings, each of which has the place of a command, and is so in all runs if it says something of them, and of what never happens in any run
-pub record AreRemarks (file : List ℕ) (setup : LintSetup) (program : CommandList) (trap_list : Option TrapList) (remarks : Remarks) : Type 0 where
+pub record AreRemarks (file : List ℕ) (setup : LintSetup) (program : CommandList) (trap_list : TrapList) (remarks : Remarks) : Type 0 where
   pub found : List Finding
   pub placed : All (IsPlaced (places_of program)) found
   pub meant : All (IsTrueOfRuns program setup.presets) found
-  pub never : IfSome trap_list (λ list. NeverHappens program setup.presets (events_of list.never.items))
+  pub never : NeverHappens program setup.presets (events_of trap_list.never.items)
   pub remarks_are : remarks ≡ remarks_of file setup found trap_list

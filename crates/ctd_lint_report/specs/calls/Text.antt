@@ -1,7 +1,7 @@
 -- What ctd-lint writes, as lines of text, or as JSON.
 use Rattle.std.specs.Prelude.{ℕ, List, [], ◌∷◌, ◌++◌, codes, flat_map, Option, Some, None, if◌then◌else◌}
 use Rattle.ctd_lint_report.specs.Prelude.{Finding, Form, LintKind, Note, Place, Remark, Trap, decimal, kind_row}
-use Rattle.ctd_lint_report.specs.calls.Json.{error_object, finding_object, never_object, trap_object, verdict_object}
+use Rattle.ctd_lint_report.specs.calls.Json.{error_object, finding_object, less_known_object, less_known_text, never_object, trap_object, verdict_object}
 use Rattle.ctd_lint_report.specs.calls.Kinds.{is_ignored, rank_text, trap_name, trap_text}
 use Rattle.ctd_lint_report.specs.declared.setup.Form.TheVariants as forms
 
@@ -50,6 +50,15 @@ trap_entry forms.Json file reason t = trap_object file reason t
 abbrev pub never_lines : Form → List ℕ → List Note → List ℕ
 never_lines forms.Text file notes = []
 never_lines forms.Json file notes = flat_map (never_object file) notes
+
+-- the line of the command from which on less is known
+abbrev pub less_known_line : List ℕ → Place → List ℕ
+less_known_line file p = file ++ place_text p ++ codes ": note: " ++ less_known_text ++ codes "\n"
+
+-- what is written of the command from which on less is known
+abbrev pub less_known_entry : Form → List ℕ → Place → List ℕ
+less_known_entry forms.Text file p = less_known_line file p
+less_known_entry forms.Json file p = less_known_object file p
 
 -- the line of what is said of verdicts
 abbrev pub verdict_line : List ℕ → List ℕ → List ℕ

@@ -1,13 +1,13 @@
 -- The lines of traps, and the line that tells of verdicts.
-use Rattle.std.specs.Prelude.{ℕ, Bool, true, false, not, ◌||◌, ◌&&◌, ◌+◌, List, [], ◌∷◌, ◌++◌, codes, Option, Some, None, IfSome, if◌then◌else◌, nat_eq}
+use Rattle.std.specs.Prelude.{ℕ, Bool, true, false, not, ◌||◌, ◌&&◌, ◌+◌, List, [], ◌∷◌, ◌++◌, codes, Option, Some, None, if◌then◌else◌, nat_eq}
 use Rattle.ctd_lint_report.specs.Prelude.{CommandList, Form, HasEachTrap, LintKind, LintSetup, Place, Preset, Trap, TrapKind, TrapList, decimal, faults_of, list_any}
 use Rattle.ctd_lint_report.specs.calls.Kinds.{is_element, is_ignored, is_shape, is_unconditional, trap_name}
 use Rattle.ctd_lint_report.specs.calls.Text.{trap_entry, verdict_entry}
 use Rattle.ctd_lint_report.specs.declared.setup.Form.TheVariants as forms
 
--- These are all places at which a run of a program may stop by a fault of a value, if they are told.
-abbrev pub AreTraps : CommandList → List Preset → Option TrapList → Type 0
-AreTraps program presets trap_list = IfSome trap_list (λ list. HasEachTrap program presets (faults_of list.traps.items))
+-- These are all places at which a run of a program may stop by a fault of a value.
+abbrev pub AreTraps : CommandList → List Preset → TrapList → Type 0
+AreTraps program presets trap_list = HasEachTrap program presets (faults_of trap_list.traps.items)
 
 -- whether two places are the same
 abbrev pub is_same_place : Place → Place → Bool
@@ -72,34 +72,28 @@ every_text condition = codes "every data file gets a verdict" ++ condition
 abbrev pub verdict_text : List Trap → List ℕ
 verdict_text traps = if some_unconditional traps then places_text (places_behind None traps) else every_text (condition_text (some_element traps) (some_shape traps))
 
--- what is said where they cannot be told
-abbrev pub too_large_text : List ℕ
-too_large_text = codes "too large to tell"
-
 -- whether verdicts are told of: where it is asked for, and always as JSON
 abbrev pub tells_verdict : Form → Bool → Bool
 tells_verdict forms.Text asked = asked
 tells_verdict forms.Json asked = true
 
--- what a report says besides traps and verdicts: the lines of findings, the status that these ask for, whether they tell a trap too, the reason of each trap, and the lines of what never happens
+-- what a report says besides traps and verdicts: the lines of findings, the status that these ask for, whether they tell a trap too, the reason of each trap, and the lines that stand behind the traps
 pub record Remarks : Type 0 where
   pub lines : List ℕ
   pub status : ℕ
   pub told : Trap → Bool
   pub reason : Trap → Option (List ℕ)
-  pub never : List ℕ
+  pub notes : List ℕ
 
--- what is written of the traps of a program: a line for each that is shown, what never happens, and the last line, if verdicts are told of; or that the traps cannot be told
-abbrev pub verdict_lines : List ℕ → LintSetup → Remarks → Option TrapList → List ℕ
-verdict_lines file setup remarks None = verdict_entry setup.form file too_large_text
-verdict_lines file setup remarks (Some list) =
-    traps_lines setup.form file remarks.reason (kept_traps setup remarks.told list.traps.items) ++ (remarks.never ++ (if tells_verdict setup.form setup.verdicts then verdict_entry setup.form file (verdict_text list.traps.items) else []))
+-- what is written of the traps of a program: a line for each that is shown, what is told behind them, and the last line, if verdicts are told of
+abbrev pub verdict_lines : List ℕ → LintSetup → Remarks → TrapList → List ℕ
+verdict_lines file setup remarks list =
+    traps_lines setup.form file remarks.reason (kept_traps setup remarks.told list.traps.items) ++ (remarks.notes ++ (if tells_verdict setup.form setup.verdicts then verdict_entry setup.form file (verdict_text list.traps.items) else []))
 
 -- whether traps of a kind leave open whether each data file gets a verdict: not where they are of elements or arrays, and --ignore accepts them
 abbrev pub is_open : List LintKind → TrapKind → Bool
 is_open ignored kind = is_unconditional kind || not (is_ignored ignored (trap_name kind))
 
 -- the status that --verdicts asks for: 0 where each data file gets a verdict, be it under conditions that --ignore accepts, else 1
-abbrev pub verdict_status : LintSetup → Option TrapList → ℕ
-verdict_status setup None = 1
-verdict_status setup (Some list) = if list_any (λ t. is_open setup.ignored.items t.kind) list.traps.items then 1 else 0
+abbrev pub verdict_status : LintSetup → TrapList → ℕ
+verdict_status setup list = if list_any (λ t. is_open setup.ignored.items t.kind) list.traps.items then 1 else 0

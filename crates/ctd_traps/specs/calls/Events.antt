@@ -1,10 +1,11 @@
 -- What happens in the runs of a program, and what never does: the theorem.
 use Rattle.ctd_program.specs.Tree
 use Rattle.std.specs.Prelude.{◌≡◌, ◌<◌, ◌^◌, ℕ, suc, true, false, Bool, List, [], ◌∷◌, ◌++◌, map, Contains}
-use Rattle.ctd_traps.specs.Prelude.{At, CommandList, CommandTree, EventKind, Fault, Mode, Note, Place, Preset, State, Task, TestData, TestTree, answer, at_start, done, faulty, finish, first_skip}
+use Rattle.ctd_traps.specs.Prelude.{At, Bindings, CommandList, CommandTree, EventKind, Fault, Mode, Moment, Note, Place, Preset, State, Task, TestData, TestTree, answer, at_start, done, faulty, finish, first_skip}
 use Rattle.ctd_traps.specs.Prelude.{perform, place_of, site_of, start, take_turn, tasks, turn}
 use Rattle.ctd_check.specs.Loops.{Loop}
 use Rattle.ctd_traps.specs.calls.Traps.{IsOfValue}
+use Rattle.ctd_traps.specs.declared.joined.Moment.TheVariants as moments
 use Rattle.ctd_traps.specs.declared.note.EventKind.TheVariants as kinds
 
 -- over some data, a run comes from a state with tasks and steps left to another: at once, or by a task that is done
@@ -13,16 +14,25 @@ pub data Comes (d : TestData) : ℕ → List Task → State → ℕ → List Tas
   by_step : {n m : ℕ} {task : Task} {more rest us : List Task} {s t u : State} →
       perform task d s ≡ done more t → Comes d n (more ++ rest) t m us u → Comes d (suc n) (task ∷ rest) s m us u
 
--- a command begins; it is done, or leads to others; a test, or the begin of a turn, gives an answer; a fault of a value stops the run
+-- a command begins; a run finds variables at a moment; a command is done, or leads to others; a test, or the begin of a turn, gives an answer; a
+-- fault of a value stops the run
 pub data Event : Type 0 where
   begins : Event
+  finds : (moment : Moment) (h : Bindings) → Event
   goes_on : Event
   answers : (b : Bool) → Event
   fails : (fault : Fault) → Event
 
+-- the place of the end of a program, where no command stands
+abbrev pub program_end : Place
+program_end = record { line = 0; column = 0 }
+
 -- what happens, and at which place, where a run does a task
 pub data Happens (d : TestData) : Task → State → Place → Event → Type 0 where
   command_begins : {c : CommandTree} {s : State} → Happens d (start c) s (place_of c) begins
+  command_finds : {c : CommandTree} {s : State} → Happens d (start c) s (place_of c) (finds moments.Begins s.store)
+  turn_finds : {loop : Loop} {k : ℕ} {s : State} → Happens d (turn loop (suc k)) s loop.place (finds moments.TurnEnded s.store)
+  end_finds : {s : State} → Happens d finish s program_end (finds moments.Done s.store)
   command_goes_on : {c : CommandTree} {more : List Task} {s t : State} →
       perform (start c) d s ≡ done more t → Happens d (start c) s (place_of c) goes_on
   assert_answers : {place : Place} {test : TestTree} {b : Bool} {s t : State} →

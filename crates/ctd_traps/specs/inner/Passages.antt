@@ -33,3 +33,7 @@ IsOneOf one other p = (p ≡ one) ⊎ (other ≡ Some p)
 -- what was found, or none
 abbrev pub IsSameOrNone : Result (Option Passage) Stop → Result (Option Passage) Stop → Type 0
 IsSameOrNone found answer = (answer ≡ found) ⊎ (answer ≡ Ok None)
+
+-- one of two passages, or none
+abbrev pub IsEither : Option Passage → Option Passage → Option Passage → Type 0
+IsEither one other o = (o ≡ one) ⊎ (o ≡ other)

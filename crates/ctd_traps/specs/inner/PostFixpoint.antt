@@ -2,7 +2,8 @@
 use Rattle.std.specs.Prelude.{◌<◌, ◌+◌, ◌^◌, ℕ, suc, List}
 use Rattle.ctd_traps.specs.Prelude.{AbstractState, Bindings, Context, Counting, PartitionIsWithin, Started, State, TestData, Variables, boxed_separator, boxed_target, command_list, out-Loop, separator_before, take_turn}
 use Rattle.ctd_program.specs.declared.tree.Loop.{Loop}
-use Rattle.ctd_traps.specs.calls.Events.{Events}
+use Rattle.ctd_traps.specs.declared.joined.Moment.TheVariants as moments
+use Rattle.ctd_traps.specs.calls.Events.{Events, finds}
 use Rattle.ctd_traps.specs.inner.Holds.{Holds}
 use Rattle.ctd_traps.specs.inner.Sparing.{SparesBetween, SparesEach, SparesLoop}
 use Rattle.ctd_traps.specs.inner.Triples.{Leads, Splits}
@@ -29,6 +30,7 @@ pub record InTurn (g : Context) (pins : Variables) (l : Loop) (counting : Counti
 -- Each part of a turn leads from its states to the next ones, and the states behind the body are within those before a later turn.
 pub record IsPostFixpoint (d : TestData) (g : Context) (pins : Variables) (events : Events) (l : Loop) (counting : Counting) (loop : Started) (h : Bindings) (c : Candidate) : Type 0 where
   pub counted : AreCounted g l counting
+  pub ended : (n : ℕ) (s : State) → Holds g pins c.later n s → events loop.place (finds moments.TurnEnded s.store)
   pub first_begin : (n : ℕ) (s : State) → InTurn g pins l counting loop h c.first 0 (suc n) s
       → Splits events loop.place (InTurn g pins l counting loop h c.first_inside 1 n) (HoldsBeside g pins c.after (λ name. SparesLoop name l) h n) (take_turn loop 0 d s)
   pub later_begin : (k n : ℕ) (s : State) → InTurn g pins l counting loop h c.later (suc k) (suc n) s

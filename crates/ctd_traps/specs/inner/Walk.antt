@@ -10,9 +10,10 @@ use Rattle.ctd_states.specs.calls.States.{at_key}
 use Rattle.ctd_store.specs.declared.value.Value.TheVariants as values
 use Rattle.ctd_traps.specs.declared.turn.Phase.TheVariants as phases
 use Rattle.ctd_transfer.specs.calls.Tests.{Divides}
-use Rattle.ctd_traps.specs.calls.Events.{begins, answers}
+use Rattle.ctd_traps.specs.declared.joined.Moment.TheVariants as moments
+use Rattle.ctd_traps.specs.calls.Events.{answers}
 use Rattle.ctd_traps.specs.inner.Holds.{Holds}
-use Rattle.ctd_traps.specs.inner.Noted.{AreNoted, IsPart, NotedIn, noted_in}
+use Rattle.ctd_traps.specs.inner.Noted.{AreNoted, BegunIn, FoundIn, IsPart, NotedIn, noted_in}
 use Rattle.ctd_traps.specs.inner.Sparing.{Spares, SparesBetween, SparesEach, SparesLoop, SparesTurns}
 use Rattle.ctd_traps.specs.inner.Triples.{Before, Leads, CommandLeads}
 
@@ -26,23 +27,23 @@ HoldsBeside g pins states spared h n s = Holds g pins states n s × Unchanged sp
 
 -- commands lead from some states to others and leave alone the names that they spare, and all that happens in them is noted in what has all these notes
 abbrev pub WalkKeeps : Context → (states after : List AbstractState) → Noted → CommandList → Type 0
-WalkKeeps g states after noted cs = (pins : Variables) (d : TestData) (all : Noted) (h : Bindings) → PinsStand (pins_in g) pins → IsPart noted all
-    → Leads d (noted_in all) (HoldsBeside g pins states (λ name. SparesEach name cs) h) cs (HoldsBeside g pins after (λ name. SparesEach name cs) h)
+WalkKeeps g states after noted cs = (pins : Variables) (d : TestData) (all : Noted) (h : Bindings) → PinsStand (pins_in g) pins → IsPart g noted all
+    → Leads d (noted_in g all) (HoldsBeside g pins states (λ name. SparesEach name cs) h) cs (HoldsBeside g pins after (λ name. SparesEach name cs) h)
 
 -- the same of a command
 abbrev pub StepKeeps : Context → (states after : List AbstractState) → Noted → CommandTree → Type 0
-StepKeeps g states after noted c = (pins : Variables) (d : TestData) (all : Noted) (h : Bindings) → PinsStand (pins_in g) pins → IsPart noted all
-    → CommandLeads d (noted_in all) (HoldsBeside g pins states (λ name. Spares name c) h) c (HoldsBeside g pins after (λ name. Spares name c) h)
+StepKeeps g states after noted c = (pins : Variables) (d : TestData) (all : Noted) (h : Bindings) → PinsStand (pins_in g) pins → IsPart g noted all
+    → CommandLeads d (noted_in g all) (HoldsBeside g pins states (λ name. Spares name c) h) c (HoldsBeside g pins after (λ name. Spares name c) h)
 
 -- the same of the separator of a loop
 abbrev pub SeparatorKeeps : Context → (states after : List AbstractState) → Noted → Separator → Type 0
-SeparatorKeeps g states after noted sep = (pins : Variables) (d : TestData) (all : Noted) (k : ℕ) (h : Bindings) → PinsStand (pins_in g) pins → IsPart noted all
-    → Leads d (noted_in all) (HoldsBeside g pins states (λ name. SparesBetween name sep) h) (separator_before (suc k) sep) (HoldsBeside g pins after (λ name. SparesBetween name sep) h)
+SeparatorKeeps g states after noted sep = (pins : Variables) (d : TestData) (all : Noted) (k : ℕ) (h : Bindings) → PinsStand (pins_in g) pins → IsPart g noted all
+    → Leads d (noted_in g all) (HoldsBeside g pins states (λ name. SparesBetween name sep) h) (separator_before (suc k) sep) (HoldsBeside g pins after (λ name. SparesBetween name sep) h)
 
 -- what a test of a command gives in some states, of which all is noted
 pub record Asks (g : Context) (states if_true if_false : List AbstractState) (t : TestTree) (f : Faults) (noted : Noted) (place : Place) : Type 0 where
   pub divides : Divides g states t if_true if_false f
-  pub begun : NotedIn g noted place begins states
+  pub begun : BegunIn g noted place states
   pub true_noted : NotedIn g noted place (answers true) if_true
   pub false_noted : NotedIn g noted place (answers false) if_false
   pub faults_noted : AreNoted noted place f
@@ -122,6 +123,7 @@ pub record IsBegun (g : Context) (states : List AbstractState) (l : Loop) (count
 -- how a later turn begins by a candidate, and all that may happen where a turn begins is noted
 pub record BeginsLater (g : Context) (candidate : List AbstractState) (counting : Counting) (first_inside first_outside : List AbstractState) (first : Faults) (inside outside : List AbstractState) (later : Faults) (noted : Noted) (place : Place) (l : Loop) : Type 0 where
   pub enters : AreCounted g l counting → Enters g candidate l counting phases.Later inside outside later
+  pub ended : FoundIn g noted place moments.TurnEnded candidate
   pub start_noted : AreNoted noted place counting.turns.faults
   pub first_noted : AreNoted noted place first
   pub later_noted : AreNoted noted place later

@@ -1,4 +1,4 @@
-use Rattle.ctd_lint_report.proofs.Common.{All, AreTraps, Finding, IfSome, IsPlaced, IsTrueOfRuns, Leaves-WritesOneOf, List, NeverHappens, command_trees, events_of, places_of, program_report}
+use Rattle.ctd_lint_report.proofs.Common.{All, AreTraps, Finding, IsPlaced, IsTrueOfRuns, Leaves-WritesOneOf, List, NeverHappens, command_trees, events_of, places_of, program_report}
 use Rattle.ctd_lint_report.proofs.Common.{remarks_of, subst, sym}
 use Rattle.ctd_lint_report.proofs.Reports.{reports_program, reports_refusal}
 use Rattle.ctd_lint_report.proofs.program.lint.Goals as goal
@@ -10,12 +10,12 @@ returns g c =
     let trap_list = c.in_ok-trap_list.trap_list in
     let tree = command_trees c.in-Ok.plan in
     let traps : AreTraps tree setup.presets trap_list = subst (λ p. AreTraps (command_trees p) setup.presets trap_list) c.commands.ensures.whole c.in_ok-trap_list.ensures.each in
-    let never : IfSome trap_list (λ list. NeverHappens tree setup.presets (events_of list.never.items)) =
-    subst (λ p. IfSome trap_list (λ list. NeverHappens (command_trees p) setup.presets (events_of list.never.items))) c.commands.ensures.whole c.in_ok-trap_list.ensures.never in
+    let never : NeverHappens tree setup.presets (events_of trap_list.never.items) =
+    subst (λ p. NeverHappens (command_trees p) setup.presets (events_of trap_list.never.items)) c.commands.ensures.whole c.in_ok-trap_list.ensures.never in
     let placed = subst (λ (fs : List Finding). All (IsPlaced (places_of tree)) fs) (sym c.as_slice-2.ensures.value)
     (subst (λ p. All (IsPlaced (places_of (command_trees p))) c.in_ok-found.found.items) c.commands-2.ensures.whole c.in_ok-found.ensures.placed) in
     let meant = subst (λ (fs : List Finding). All (IsTrueOfRuns tree setup.presets) fs) (sym c.as_slice-2.ensures.value)
-    (subst (λ p. IfSome trap_list (λ list. NeverHappens (command_trees p) setup.presets (events_of list.never.items)) → All (IsTrueOfRuns (command_trees p) setup.presets) c.in_ok-found.found.items) c.commands-2.ensures.whole c.in_ok-found.ensures.meant never) in
+    (subst (λ p. NeverHappens (command_trees p) setup.presets (events_of trap_list.never.items) → All (IsTrueOfRuns (command_trees p) setup.presets) c.in_ok-found.found.items) c.commands-2.ensures.whole c.in_ok-found.ensures.meant never) in
     record {
       written = Leaves-WritesOneOf _ _ _ (program_report c.args.file.now setup (remarks_of c.args.file.now setup found trap_list) trap_list) c.write_program.result
           (reports_program command_trees g.P.Source c.args.file.now setup c.args.program.now _ c.in-Ok.plan found trap_list c.in-Ok.ensures.loads placed meant traps never)

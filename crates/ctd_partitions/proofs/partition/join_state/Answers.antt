@@ -12,14 +12,12 @@ returns-then-is_dropped c = record {
   added = λ n h stands. absurd (c.is_never-is_dropped.ensures c.if-is_dropped.true c.args.context n h stands);
 }
 
-pub returns-in_ok-more-in-None : goal.returns-in_ok-more-in-None
-returns-in_ok-more-in-None c =
+pub returns-in-None : goal.returns-in-None
+returns-in-None c =
     let g = c.args.context in
-    let more = c.in_ok-more-in-None.more.items in
-    let pushed = c.in_ok-more-in-None.ensures in
     record {
-      others = if_ok_more (λ (v : Vec State). PartitionIsWithin g more v.items) (λ (v : Vec State). PartitionIsWithin g c.args.states.items v.items) c.limit_states.result (λ v so n h one. so n h (pushed.others g n h one)) c.limit_states.ensures;
-      added = if_ok_more (λ (v : Vec State). PartitionIsWithin g more v.items) (λ (v : Vec State). IsInPartition g c.args.state v.items) c.limit_states.result (λ v so n h stands. so n h (pushed.added g n h stands)) c.limit_states.ensures;
+      others = if_ok_more (λ (v : Vec State). (g : Context) → PartitionIsWithin g c.args.states.items v.items) (λ (v : Vec State). PartitionIsWithin g c.args.states.items v.items) c.with_pushed-in-None.result (λ v so. so g) c.with_pushed-in-None.ensures.others;
+      added = if_ok_more (λ (v : Vec State). (g : Context) → IsInPartition g c.args.state v.items) (λ (v : Vec State). IsInPartition g c.args.state v.items) c.with_pushed-in-None.result (λ v so. so g) c.with_pushed-in-None.ensures.added;
     }
 
 pub returns-in_ok-joined-in-Some : goal.returns-in_ok-joined-in-Some

@@ -16,10 +16,10 @@ returns c =
     let noted = c.note_event-2.new.noted in
     let second = c.in_ok-note_event.ensures in
     let third = c.in_ok-note_event-2.ensures in
-    let later = part_trans reported middle noted second.more third.more in
+    let later = part_trans g reported middle noted (second.more g) (third.more g) in
     record {
-      more = part_trans c.args.noted.now reported noted c.in_ok-asked.ensures.more later;
+      more = part_trans g c.args.noted.now reported noted c.in_ok-asked.ensures.more later;
       asks = asks_more g c.args.states.now if_true if_false (test_tree c.args.t.now) asked.faults reported noted place later c.in_ok-asked.ensures.asks;
-      on_true = noted_more g middle noted place goes_on if_true third.more (subst (NotedIn g middle place goes_on) c.as_slice.ensures.value (second.event g));
+      on_true = noted_more g middle noted place goes_on if_true (third.more g) (subst (NotedIn g middle place goes_on) c.as_slice.ensures.value (second.event g));
       on_false = subst (NotedIn g noted place goes_on) c.as_slice-2.ensures.value (third.event g);
     }

@@ -15,8 +15,8 @@ returns c =
     let reported = c.ask.new.noted in
     let noted = c.note_event.new.noted in
     record {
-      more = part_trans c.args.noted.now reported noted c.in_ok-asked.ensures.more c.in_ok-note_event.ensures.more;
+      more = part_trans g c.args.noted.now reported noted c.in_ok-asked.ensures.more (c.in_ok-note_event.ensures.more g);
       keeps = assert_steps g states if_true if_false asked.faults c.args.place t noted
-          (asks_more g states if_true if_false t asked.faults reported noted c.args.place c.in_ok-note_event.ensures.more c.in_ok-asked.ensures.asks)
+          (asks_more g states if_true if_false t asked.faults reported noted c.args.place (c.in_ok-note_event.ensures.more g) c.in_ok-asked.ensures.asks)
           (subst (NotedIn g noted c.args.place goes_on) c.as_slice.ensures.value (c.in_ok-note_event.ensures.event g));
     }

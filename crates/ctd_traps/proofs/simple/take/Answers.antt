@@ -1,4 +1,4 @@
-use Rattle.ctd_traps.proofs.Common.{AreNoted, NotedIn, begins, command_tree, place_is, subst, sym}
+use Rattle.ctd_traps.proofs.Common.{AreNoted, BegunIn, NotedIn, command_tree, place_is, subst, sym}
 use Rattle.ctd_traps.specs.calls.Events.{goes_on}
 use Rattle.ctd_traps.proofs.Noting.{faults_more}
 use Rattle.ctd_traps.proofs.Walking.{acts_step}
@@ -16,9 +16,9 @@ returns c =
     let run = c.in_ok-note_run.ensures in
     let same = sym (place_is command.action command.place) in
     record {
-      more = λ place event is. run.more place event (c.in_ok-note_faults.ensures.more place event is);
+      more = λ place event is. run.more place event (c.in_ok-note_faults.ensures.more g place event is);
       keeps = acts_step g states after acted.faults (command_tree command) noted c.in_ok-acted.ensures
-          (subst (λ p. NotedIn g noted p begins states) same (run.begun g))
+          (subst (λ p. BegunIn g noted p states) same run.begun)
           (subst (λ p. NotedIn g noted p goes_on after) same (subst (NotedIn g noted command.place goes_on) c.as_slice.ensures.value (run.gone g)))
-          (subst (λ p. AreNoted noted p acted.faults) same (faults_more reported noted command.place acted.faults run.more c.in_ok-note_faults.ensures.faults));
+          (subst (λ p. AreNoted noted p acted.faults) same (faults_more g reported noted command.place acted.faults run.more c.in_ok-note_faults.ensures.faults));
     }
