@@ -4,7 +4,7 @@
 Each crate's definitions stand in three places: right in specs/ what the theorem of the tool reaches, which has to be believed; in specs/calls/
 what else the contracts of public calls reach; in specs/inner/ what only the contracts of private functions and the proofs use. A definition
 reaches what it names, a contract what its clauses name, and a type what its model names. Proofs reach nothing: the prover has read them.
-A second list has what the sentences of `ctd-lint --verdicts` rest on besides.
+A second list has what the sentences of `ctd-lint --verdicts` rest on besides, and a third what the lines of `ctd-lint --guarantees` do.
 It fails too where a proof stands outside of specs/inner/, where a definition has no line in plain words above it, and where a definition to be
 believed has a word that cannot be followed.
 """
@@ -26,6 +26,8 @@ THEOREM_MODULE = 'ctd_tool.specs.Theorem'
 # which holds whatever it is.
 VERDICTS = ('ctd_lint_tool', 'answer')
 PARAMETER = ('ctd_lint_report.specs.calls.Report', 'AreRemarks')
+# What the lines of `ctd-lint --guarantees` say: that each is so, and how it is written.
+GUARANTEES = {('ctd_guarantees.specs.calls.Guarantees', 'IsGuaranteed'), ('ctd_lint_report.specs.calls.Report', 'asked_guarantees')}
 # What the toolchain calls a fact, besides what begins with Is.
 FACTS = {'Consumes', 'CmpEqualImpliesEq', 'IfSome', 'IfOk', 'IfErr', 'All'}
 REASONS = {
@@ -185,6 +187,10 @@ class Repository:
         """What the sentences of ctd-lint on verdicts rest on."""
         return self.reached({('code', *VERDICTS)}, {PARAMETER})
 
+    def guarantees(self):
+        """What the lines of ctd-lint on accepted files rest on."""
+        return self.reached(GUARANTEES)
+
     def definitions(self):
         """Each definition with the path of its module, in reading order: the theorem first, then from the lowest crate up."""
         paths = sorted(self.modules, key=lambda path: path != THEOREM_MODULE)
@@ -226,18 +232,27 @@ def definitions_table(repository):
 
 
 def verdicts_table(repository):
-    """The definitions and types of code on which the sentences of ctd-lint rest besides those of the first tables, from the lowest crate up."""
-    reached, theorem = repository.verdicts(), repository.theorem()
+    """What the sentences of ctd-lint on verdicts rest on besides what stands in the first tables."""
+    return besides_table(repository, repository.verdicts(), repository.theorem())
+
+
+def guarantees_table(repository):
+    """What the lines of ctd-lint on accepted files rest on besides what stands in all other tables."""
+    return besides_table(repository, repository.guarantees(), repository.theorem() | repository.verdicts())
+
+
+def besides_table(repository, reached, known):
+    """The definitions and types of code that are reached besides those that are known, from the lowest crate up."""
     rows, total = [], 0
     for path in dict.fromkeys(path for path, _ in repository.definitions()):
         nodes = [(path, definition.name) for definition in repository.modules[path].definitions]
-        found = [repository.homes[node] for node in nodes if node in reached and node not in theorem]
+        found = [repository.homes[node] for node in nodes if node in reached and node not in known]
         if found:
             size = sum(definition.size() for definition in found)
             total += size
             names = ', '.join(f'`{definition.name}`' for definition in found)
             rows.append(row(path.split('.')[0], f'[`{path.split(".")[-1]}`](../{repository.show(path)})', size, names))
-    first = code_items(repository, theorem)
+    first = code_items(repository, known)
     code, lines = code_rows(repository, [item for item in code_items(repository, reached) if item not in first])
     head = [row('Crate', 'Definitions or code', 'Lines', 'Names'), row(*['---'] * 4)]
     return [*head, *rows, *code, row('', f'in {len(rows)} files of definitions', total, ''), row('', f'in {len(code)} files of code', lines, '')]
@@ -287,7 +302,7 @@ def kit_table(repository):
     return [row('Module of the toolchain', 'Words', 'Lines that they lead to'), row(*['---'] * 3), *rows, total]
 
 
-TABLES = {'definitions': definitions_table, 'code': code_table, 'toolchain': kit_table, 'verdicts': verdicts_table}
+TABLES = {'definitions': definitions_table, 'code': code_table, 'toolchain': kit_table, 'verdicts': verdicts_table, 'guarantees': guarantees_table}
 
 
 def renewed(repository, page):
@@ -305,7 +320,7 @@ def renewed(repository, page):
 
 def failures(repository):
     """What is wrong with the definitions, each in one line."""
-    places, verdicts = repository.places(), repository.verdicts()
+    places, told = repository.places(), repository.verdicts() | repository.guarantees()
     calls = {item.key for source in repository.sources for item in source.items}
     for call in sorted(THEOREM - calls):
         yield f'{call[0]} has no call {call[1]}, whose contract is a part of the theorem'
@@ -313,6 +328,8 @@ def failures(repository):
         yield f'{VERDICTS[0]} has no call {VERDICTS[1]}, on whose contract the sentences of ctd-lint rest'
     if PARAMETER not in repository.homes:
         yield f'{PARAMETER[0]} has no definition {PARAMETER[1]}, which is passed over'
+    for home, name in sorted(GUARANTEES - set(repository.homes)):
+        yield f'{home} has no definition {name}, on which the lines of ctd-lint on accepted files rest'
     for path, definition in repository.definitions():
         node, where = (path, definition.name), repository.folder(path)
         if where != 'inner' and repository.is_proof(node):
@@ -321,7 +338,7 @@ def failures(repository):
             yield f'{repository.show(path)}: {definition.name} {REASONS[places[node]]}'
         if not definition.described:
             yield f'{repository.show(path)}: {definition.name} has no line in plain words above it'
-        if where == '' or node in verdicts:
+        if where == '' or node in told:
             for word in unknown_words(repository.modules[path], definition):
                 yield f'{repository.show(path)}: {definition.name} names {word}, which its module neither defines nor imports'
     for file, name in repository.lost_imports():
@@ -340,7 +357,7 @@ def late_names(repository):
 
 def way_to(repository, name):
     """By which way a definition is reached, from it to the contract."""
-    for nodes in (repository.theorem(), repository.verdicts(), repository.reached(repository.public_calls())):
+    for nodes in (repository.theorem(), repository.verdicts(), repository.guarantees(), repository.reached(repository.public_calls())):
         for node in nodes:
             if '.'.join(node).endswith(f'.{name}'):
                 while node is not None:

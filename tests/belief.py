@@ -250,7 +250,9 @@ REPOSITORY = {
 class Places(unittest.TestCase):
     def setUp(self) -> None:
         self.folder = Path(self.enterContext(tempfile.TemporaryDirectory()))
-        for name, value in {"THEOREM": {("high", "high")}, "VERDICTS": ("high", "lint"), "PARAMETER": ("high.specs.calls.Verdicts", "remark")}.items():
+        remark = ("high.specs.calls.Verdicts", "remark")
+        replaced = {"THEOREM": {("high", "high")}, "VERDICTS": ("high", "lint"), "PARAMETER": remark, "GUARANTEES": {remark}}
+        for name, value in replaced.items():
             self.addCleanup(setattr, believed, name, getattr(believed, name))
             setattr(believed, name, value)
 
@@ -386,6 +388,15 @@ class Places(unittest.TestCase):
         self.assertEqual(self.failures(), ["high has no call gone, on whose contract the sentences of ctd-lint rest"])
         believed.VERDICTS, believed.PARAMETER = ("high", "lint"), ("high.specs.calls.Verdicts", "gone")
         self.assertEqual(self.failures(), ["high.specs.calls.Verdicts has no definition gone, which is passed over"])
+
+    def test_the_third_list_has_what_the_others_lack(self) -> None:
+        self.failures()
+        rows = believed.guarantees_table(believed.Repository(self.folder))
+        self.assertEqual(rows[2], "| high | [`Verdicts`](../crates/high/specs/calls/Verdicts.antt) | 4 | `text`, `remark` |")
+
+    def test_a_third_list_of_which_a_definition_is_gone(self) -> None:
+        believed.GUARANTEES = {("high.specs.calls.Verdicts", "gone")}
+        self.assertEqual(self.failures(), ["high.specs.calls.Verdicts has no definition gone, on which the lines of ctd-lint on accepted files rest"])
 
     def test_a_word_of_the_second_list_that_cannot_be_followed(self) -> None:
         text = REPOSITORY["crates/high/specs/calls/Verdicts.antt"].replace("said n = base n", "said n = unheard n")

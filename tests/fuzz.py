@@ -16,7 +16,10 @@ of a kind is complained of.
 
 With --findings it holds what ctd-lint finds against the runs of the reference: variables that count for nothing, commands that no run begins or
 passes, and tests that are never true or never false. The last line counts such findings, as passed, and the cases with a wrong one. With --self-test
-too it sees that wrong ones are complained of."""
+too it sees that wrong ones are complained of.
+
+With --guarantees it puts what ctd-lint says of every accepted file into the programs of cases whose data are accepted, as assertions: none may reject
+them. The last line counts the lines that were put, as passed, and the cases with a wrong one."""
 import argparse
 import multiprocessing
 import os
@@ -32,6 +35,8 @@ from fuzzing.cases import case_of
 from fuzzing.checker import Checker
 from fuzzing.findings import IDLE_KINDS, NEVER, Held, hold, wrong_claims_seen
 from fuzzing.findings import complaints_of as complaints_of_findings
+from fuzzing.guarantees import Asserted, assert_all
+from fuzzing.guarantees import complaints_of as complaints_of_guarantees
 from fuzzing.shrink import shrink
 from fuzzing.verdicts import Comparison, Linter, case_to_compare, complaints_of, wrong_reports_seen
 from fuzzing.verdicts import compare as compare_verdicts
@@ -215,6 +220,27 @@ def fuzz_findings(program: Path, linter: Path, seed: int, numbers: range, jobs: 
     return print_counts(held.kinds.total(), len(held.wrong) + len(missing))
 
 
+def assert_part(program: Path, linter: Path, seed: int, numbers: Sequence[int]) -> Asserted:
+    """Puts what ctd-lint says into the programs of the cases of these numbers."""
+    with checker_in_folder(program) as checker:
+        return assert_all(checker, Linter(linter), seed, numbers)
+
+
+def fuzz_guarantees(program: Path, linter: Path, seed: int, numbers: range, jobs: int) -> int:
+    """Puts what ctd-lint says into programs, and prints cases with a line that is not so."""
+    found = Asserted()
+    with multiprocessing.Pool(jobs) as pool:
+        for part in pool.starmap(assert_part, [(program, linter, seed, numbers[job::jobs]) for job in range(jobs)]):
+            found.add(part)
+    with checker_in_folder(program) as checker:
+        for number in sorted(found.wrong)[:MOST_PRINTED]:
+            case = shrink(case_to_compare(seed, number), lambda case: bool(complaints_of_guarantees(case, checker, Linter(linter))))
+            print(f"fuzz: case {number} of seed {seed} has a line that is not so; made smaller:\n{case}")
+            print("\n".join(complaints_of_guarantees(case, checker, Linter(linter))))
+    print(f"fuzz: {found.left_out} lines are not of all values of their names, and were left out")
+    return print_counts(found.lines, len(found.wrong))
+
+
 def self_test_of_findings(seed: int) -> int:
     """Counts the wrong findings that are complained of in some case."""
     passed = failed = 0
@@ -245,10 +271,11 @@ def main() -> int:
     parser.add_argument("--self-test", action="store_true", help="looks for wrong bodies in the reference")
     parser.add_argument("--verdicts", action="store_true", help="compares the checker with ctd-lint")
     parser.add_argument("--findings", action="store_true", help="holds what ctd-lint finds against runs")
+    parser.add_argument("--guarantees", action="store_true", help="puts what ctd-lint says of accepted files into programs")
     parser.add_argument("--linter", type=Path, default=BUILT_LINTER, help="the ctd-lint (default: the one that was built here)")
     given = parser.parse_args()
     program, linter = given.checker.resolve(), given.linter.resolve()
-    for needed in [program, *([linter] if given.verdicts or given.findings else [])]:
+    for needed in [program, *([linter] if given.verdicts or given.findings or given.guarantees else [])]:
         if not needed.is_file():
             parser.error(f"there is no {needed}: make build makes it")
     numbers = range(given.first, given.first + given.count)
@@ -256,6 +283,8 @@ def main() -> int:
         return self_test_of_verdicts(program, linter, given.seed) if given.self_test else fuzz_verdicts(program, linter, given.seed, numbers, given.jobs)
     if given.findings:
         return self_test_of_findings(given.seed) if given.self_test else fuzz_findings(program, linter, given.seed, numbers, given.jobs)
+    if given.guarantees:
+        return fuzz_guarantees(program, linter, given.seed, numbers, given.jobs)
     if given.self_test:
         return self_test(program, given.seed)
     if given.case is None:

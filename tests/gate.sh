@@ -27,6 +27,7 @@ if [ "$failed" -eq 0 ]; then
     count tests/lint.py
     count tests/verdicts.py
     count tests/verdicts.py --lint
+    count tests/guarantees.py
     count tests/in_a_row.py
     count tests/failing_calls.py
     count tests/reads.py
@@ -56,5 +57,6 @@ if [ "$failed" -eq 0 ]; then
     count tests/fuzz.py
     count tests/fuzz.py --verdicts
     count tests/fuzz.py --findings
+    count tests/fuzz.py --guarantees
 fi
 end_of_counts

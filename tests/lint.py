@@ -165,6 +165,14 @@ def as_json(linter: Linter, text: str, words: list[str], status: int) -> Iterato
     yield "what never happens as JSON", [], unmeant(objects)
 
 
+def lines_as_json(linter: Linter, text: str, words: list[str]) -> tuple[str, object, object]:
+    """The lines of --guarantees, as text and as JSON."""
+    _, out, _ = linter.run(text, [*words, "--guarantees"])
+    _, json_out, _ = linter.run(text, [*words, "--guarantees", "--json"])
+    lines = [line.strip() for line in out.splitlines() if line.startswith("  ") and not line.startswith("  at the end of each turn of ")]
+    return "lines as JSON", lines, [said["text"] for said in objects_of(json_out) if said["rank"] == "guarantee"]
+
+
 def strange_names(linter: Linter) -> Iterator[tuple[str, object, object]]:
     """The name of a file comes back from JSON byte for byte, also of one that is not there."""
     _, out, _ = linter.run_on({STRANGE: "INT(1,9,n)"}, ["--json", STRANGE, "x" + STRANGE])
@@ -176,7 +184,7 @@ def outcomes(linter: Linter, table: Table) -> Iterator[tuple[str, object, object
     """A name for each test, with what is wanted and what is found."""
     for name, text, words, wanted in [*rows(table), *documented(table)]:
         yield name, wanted, linter.run(text, words)
-        for told, json_wanted, found in as_json(linter, text, words, wanted[0]):
+        for told, json_wanted, found in [*as_json(linter, text, words, wanted[0]), lines_as_json(linter, text, words)]:
             yield f"{name}, {told}", json_wanted, found
     yield from strange_names(linter)
     for call in table["calls"]:

@@ -5,8 +5,8 @@ from typing import Any
 
 from traps_told import said_in
 
-# The keys of an object, in their order. All but these have a string.
-KEYS = ["file", "line", "column", "rank", "kind", "text", "name", "reason", "unclosed"]
+# The keys of an object, in their order. All but those of places and relations have a string.
+KEYS = ["file", "line", "column", "rank", "kind", "text", "name", "reason", "unclosed", "relations"]
 PLACE = ["line", "column"]
 # The keys that the objects of a rank have, besides those of a place, and those that they may have.
 RANKS = {
@@ -14,6 +14,7 @@ RANKS = {
     "note": (["file", "rank", "kind", "text"], ["name"]),
     "risk": (["file", "rank", "kind", "text"], ["reason"]),
     "never": (["file", "rank", "kind"], []),
+    "guarantee": (["file", "rank", "text", "relations"], []),
     "verdict": (["file", "rank", "text"], []),
     "error": (["file", "rank", "text"], ["unclosed"]),
 }
@@ -37,13 +38,14 @@ Said = dict[str, Any]
 def is_said(said: Said) -> bool:
     """Whether an object has the keys of its rank, each with a value of its kind, in order."""
     needed, others = RANKS[said["rank"]]
-    has_place = said["rank"] not in ("verdict", "error") or "line" in said
+    has_place = said["rank"] not in ("verdict", "error", "guarantee") or "line" in said
     wanted = needed + [key for key in others if key in said] + PLACE * has_place
     numbers = [said, said["unclosed"]] if "unclosed" in said else [said] * has_place
     return (
         list(said) == [key for key in KEYS if key in wanted]
         and all(isinstance(place[key], int) for place in numbers for key in PLACE)
-        and all(isinstance(said[key], str) for key in said if key not in [*PLACE, "unclosed"])
+        and all(isinstance(said[key], str) for key in said if key not in [*PLACE, "unclosed", "relations"])
+        and all(len(sides) == 3 and all(isinstance(side, str) for side in sides) for sides in said.get("relations", []))
         and list(said.get("unclosed", dict.fromkeys(PLACE))) == PLACE
         and (said["rank"] != "never" or said["kind"] in EVENTS)
     )

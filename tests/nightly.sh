@@ -11,6 +11,7 @@ count tests/tables.py crates/checktestdata/out/checktestdata tests/tables/nightl
 count tests/fuzz.py --count "${COUNT:-100000}" --seed "${SEED:-1}"
 count tests/fuzz.py --verdicts --count "${COUNT:-100000}" --seed "${SEED:-1}"
 count tests/fuzz.py --findings --count "${COUNT:-100000}" --seed "${SEED:-1}"
+count tests/fuzz.py --guarantees --count "${COUNT:-100000}" --seed "${SEED:-1}"
 count tests/cover_copies.py crates/checktestdata/out/checktestdata 10000
 count tests/flow.py crates/checktestdata/out/checktestdata 3000 "${SEED:-1}"
 count tests/precision.py

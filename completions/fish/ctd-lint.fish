@@ -4,6 +4,7 @@ set --local kinds after-eof always-false always-true bad-count bad-exponent care
 complete -c ctd-lint -s D -l define -x -d 'Name variables that a check is given'
 complete -c ctd-lint -l ignore -x -a "(__fish_append , $kinds)" -d 'Leave out findings of these kinds'
 complete -c ctd-lint -l verdicts -d 'Tell whether every data file gets a verdict'
+complete -c ctd-lint -l guarantees -d 'Tell what every accepted file has'
 complete -c ctd-lint -l json -d 'Write an object of JSON a line'
 complete -c ctd-lint -s h -l help -d 'Show the help'
 complete -c ctd-lint -s V -l version -d 'Show the version'

@@ -3,3 +3,5 @@ pub mod Reports
 pub mod VerdictText
 pub mod Statuses
 pub mod Appended
+pub mod Exponents
+pub mod Telling

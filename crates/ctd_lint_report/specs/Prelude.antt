@@ -5,6 +5,9 @@ pub use Rattle.ctd_findings.specs.declared.finding.Finding.{Finding}
 pub use Rattle.ctd_findings.specs.declared.finding.Remark.{Remark}
 pub use Rattle.ctd_findings.specs.declared.kind.Kind.{Kind}
 pub use Rattle.ctd_findings.specs.declared.kind.Rank.{Rank}
+pub use Rattle.ctd_guarantees.specs.calls.Guarantees.{IsGuaranteed}
+pub use Rattle.ctd_guarantees.specs.declared.guarantee.GuaranteeGroup.{GuaranteeGroup}
+pub use Rattle.ctd_guarantees.specs.declared.part.Guarantee.{Guarantee}
 pub use Rattle.ctd_lint_report.specs.declared.kind.LintKind.{LintKind}
 pub use Rattle.ctd_lint_report.specs.declared.setup.Form.{Form}
 pub use Rattle.ctd_lint_report.specs.declared.setup.LintSetup.{LintSetup}

@@ -4,4 +4,9 @@ pub mod Json
 pub mod Text
 pub mod Traps
 pub mod Reasons
+pub mod Numbers
+pub mod Expressions
+pub mod Relations
+pub mod Parts
+pub mod Guarantees
 pub mod Report

@@ -12,21 +12,21 @@ use ctd_traps::{EventKind, Note, Trap};
 use std::alloc::AllocError;
 
 /// Whether a byte has a backslash before it in a string: a quotation mark or a backslash.
-fn is_quoted(byte: u8) -> bool
+pub(crate) fn is_quoted(byte: u8) -> bool
     ensures { result ≡ is_quoted byte }
 {
     byte == b'"' || byte == b'\\'
 }
 
 /// Whether a byte is printable ASCII.
-fn is_printable(byte: u8) -> bool
+pub(crate) fn is_printable(byte: u8) -> bool
     ensures { result ≡ is_printable byte }
 {
     b' ' <= byte && byte <= b'~'
 }
 
 /// A hexadecimal digit.
-fn hex_digit(number: u8) -> u8
+pub(crate) fn hex_digit(number: u8) -> u8
     requires { number < 16 }
     ensures { result ≡ digit_char number }
 {
@@ -74,7 +74,7 @@ fn write_bytes(bytes: &[u8], text: &mut Vec<u8>) -> Result<(), AllocError>
 }
 
 /// Appends a string.
-fn write_string(bytes: &[u8], text: &mut Vec<u8>) -> Result<(), AllocError>
+pub(crate) fn write_string(bytes: &[u8], text: &mut Vec<u8>) -> Result<(), AllocError>
     ensures { OnOk result (text.new.items ≡ text.old.items ++ string_text bytes.now) }
 {
     text.extend_from_slice(b"\"")?;
@@ -93,7 +93,7 @@ fn write_numbers(place: Place, text: &mut Vec<u8>) -> Result<(), AllocError>
 }
 
 /// Appends a member with a string, behind others.
-fn write_member(key: &str, value: &[u8], text: &mut Vec<u8>) -> Result<(), AllocError>
+pub(crate) fn write_member(key: &str, value: &[u8], text: &mut Vec<u8>) -> Result<(), AllocError>
     ensures { OnOk result (text.new.items ≡ text.old.items ++ member key.now value.now) }
 {
     text.extend_from_slice(b",\"")?;
@@ -113,7 +113,11 @@ fn write_optional(key: &str, value: &Option<Bytes>, text: &mut Vec<u8>) -> Resul
 }
 
 /// Begins an object, which is about a file, and a place in it, if there is one.
-fn write_head(file: &[u8], place: Option<Place>, text: &mut Vec<u8>) -> Result<(), AllocError>
+pub(crate) fn write_head(
+    file: &[u8],
+    place: Option<Place>,
+    text: &mut Vec<u8>,
+) -> Result<(), AllocError>
     ensures { OnOk result (text.new.items ≡ text.old.items ++ head_text file.now place) }
 {
     text.extend_from_slice(b"{\"file\":")?;

@@ -4,12 +4,19 @@
 mod entry;
 mod expected;
 mod explanation;
+mod expression;
+mod guarantee;
 mod json;
 mod kind;
+mod line;
+mod number;
+mod part;
 mod program;
 mod reason;
+mod relation;
 mod setup;
 mod text;
+mod told;
 mod traps;
 mod unclosed;
 

@@ -1,10 +1,13 @@
 //! A program, read, and the report on it.
 
-ghost use Rattle.std.specs.Prelude.{◌≡◌, IfOk, false};
+ghost use Rattle.std.specs.Prelude.{◌≡◌, ◌++◌, All, IfOk, IfSome, OnOk, false};
+ghost use Rattle.ctd_guarantees.specs.calls.Guarantees.{IsGuaranteed};
+ghost use Rattle.ctd_program.specs.calls.View.{command_trees};
 ghost use Rattle.ctd_source.specs.declared.source.Seen.TheVariants.{Going};
 ghost use Rattle.ctd_report.specs.calls.Written.{Leaves};
 ghost use Rattle.ctd_report.specs.Written.{WritesOneOf, before_after};
-ghost use Rattle.ctd_lint_report.specs.calls.Report.{AreRemarks, IsLintReport, findings_status, program_lines, program_report, program_status, refusal_report, remarks_of, unopened_report};
+ghost use Rattle.ctd_traps.specs.calls.Known.{EachAcceptedHas, EachFinds};
+ghost use Rattle.ctd_lint_report.specs.calls.Report.{AreRemarks, IsLintReport, asked_guarantees, findings_status, notes_behind, program_lines, program_report, program_status, refusal_report, remarks_of, unopened_report};
 ghost use Rattle.ctd_lint_report.specs.calls.Text.{findings_lines, kept};
 ghost use Rattle.ctd_lint_report.specs.calls.Traps.{verdict_lines, verdict_status};
 
@@ -12,16 +15,19 @@ use crate::entry::{
     refusal_text, unopened_text, write_error, write_finding, write_less_known, write_never,
 };
 use crate::explanation::explanation;
+use crate::guarantee::write_guarantees;
 use crate::kind::{LintKind, is_ignored};
 use crate::setup::{Form, LintSetup};
 use crate::traps::{some_open, traps_text, write_verdict_of};
 use crate::unclosed::unclosed_command;
 use ctd_findings::{Finding, Rank, findings};
+use ctd_guarantees::{GuaranteeGroup, guarantees};
 use ctd_loader::Plan;
+use ctd_program::{Command, Presets};
 use ctd_report::{Sink, ToolFault, write_report};
 use ctd_source::Source;
 use ctd_token::{Bytes, LoadFault, LoadKind, Place};
-use ctd_traps::{TrapList, traps};
+use ctd_traps::{Asked, TrapList, traps};
 use std::alloc::{AllocError, Global};
 
 /// The status of a program without warnings.
@@ -77,9 +83,10 @@ fn program_status(
     file: &Bytes,
     setup: &LintSetup,
     found: &[Finding],
+    groups: &[GuaranteeGroup],
     trap_list: &TrapList<'_>,
 ) -> u8
-    ensures { result ≡ program_status setup.now (remarks_of file.now setup.now found.now trap_list.now) trap_list.now }
+    ensures { result ≡ program_status setup.now (remarks_of file.now setup.now found.now groups.now trap_list.now) trap_list.now }
 {
     let own = status_of(found, setup.ignored.as_slice());
     if !setup.verdicts {
@@ -88,20 +95,53 @@ fn program_status(
     own.max(verdict_status(setup, trap_list))
 }
 
+/// Appends what is written of what every accepted file has, if that is asked for.
+fn write_asked(
+    alloc: Global,
+    file: &[u8],
+    setup: &LintSetup,
+    names: &[&[u8]],
+    groups: &[GuaranteeGroup],
+    text: &mut Vec<u8>,
+) -> Result<(), AllocError>
+    ensures { OnOk result (text.new.items ≡ text.old.items ++ asked_guarantees file.now setup.now names.now groups.now) }
+{
+    if !setup.guarantees {
+        return Ok(());
+    }
+    write_guarantees(alloc, setup.form, file, names, groups, text)
+}
+
+/// Appends what is told behind the traps.
+fn write_notes(
+    alloc: Global,
+    file: &[u8],
+    setup: &LintSetup,
+    groups: &[GuaranteeGroup],
+    trap_list: &TrapList<'_>,
+    text: &mut Vec<u8>,
+) -> Result<(), AllocError>
+    ensures { OnOk result (text.new.items ≡ text.old.items ++ notes_behind file.now setup.now text.old.items groups.now trap_list.now) }
+{
+    write_less_known(setup.form, file, trap_list.less_known, text)?;
+    write_never(setup.form, file, trap_list.never.as_slice(), text)?;
+    write_asked(alloc, file, setup, trap_list.names.as_slice(), groups, text)
+}
+
 /// What is written of the traps of a program, but for those that findings tell too, and behind them.
 fn verdict_text(
     alloc: Global,
     file: &[u8],
     setup: &LintSetup,
     found: &[Finding],
+    groups: &[GuaranteeGroup],
     trap_list: &TrapList<'_>,
 ) -> Result<Vec<u8>, AllocError>
-    ensures { IfOk result (λ text. text.items ≡ verdict_lines file.now setup.now (remarks_of file.now setup.now found.now trap_list.now) trap_list.now) }
+    ensures { IfOk result (λ text. text.items ≡ verdict_lines file.now setup.now (remarks_of file.now setup.now found.now groups.now trap_list.now) trap_list.now) }
 {
     let traps = trap_list.traps.as_slice();
     let mut text = traps_text(alloc, file, setup, found, trap_list.names.as_slice(), traps)?;
-    write_less_known(setup.form, file, trap_list.less_known, &mut text)?;
-    write_never(setup.form, file, trap_list.never.as_slice(), &mut text)?;
+    write_notes(alloc, file, setup, groups, trap_list, &mut text)?;
     write_verdict_of(alloc, file, setup, traps, &mut text)?;
     Ok(text)
 }
@@ -112,12 +152,13 @@ fn program_text(
     setup: &LintSetup,
     file: &Bytes,
     found: &[Finding],
+    groups: &[GuaranteeGroup],
     trap_list: &TrapList<'_>,
 ) -> Result<Vec<u8>, AllocError>
-    ensures { IfOk result (λ text. text.items ≡ program_lines file.now setup.now (remarks_of file.now setup.now found.now trap_list.now) trap_list.now) }
+    ensures { IfOk result (λ text. text.items ≡ program_lines file.now setup.now (remarks_of file.now setup.now found.now groups.now trap_list.now) trap_list.now) }
 {
     let mut text = findings_text(alloc, file.as_slice(), setup, found)?;
-    let lines = verdict_text(alloc, file.as_slice(), setup, found, trap_list)?;
+    let lines = verdict_text(alloc, file.as_slice(), setup, found, groups, trap_list)?;
     text.extend_from_slice(lines.as_slice())?;
     Ok(text)
 }
@@ -128,6 +169,7 @@ fn write_program<O: Sink, E: Sink>(
     setup: &LintSetup,
     file: &Bytes,
     found: &[Finding],
+    groups: &[GuaranteeGroup],
     trap_list: &TrapList<'_>,
     out: &mut O,
     err: &mut E,
@@ -135,10 +177,10 @@ fn write_program<O: Sink, E: Sink>(
     requires out_works { O.has_failed out.old ≡ false }
     requires err_works { E.has_failed err.old ≡ false }
     ensures written { Leaves (before_after O.Sink out.old out.new) (before_after E.Sink err.old err.new)
-        (program_report file.now setup.now (remarks_of file.now setup.now found.now trap_list.now) trap_list.now) result }
+        (program_report file.now setup.now (remarks_of file.now setup.now found.now groups.now trap_list.now) trap_list.now) result }
 {
-    let text = program_text(alloc, setup, file, found, trap_list)?;
-    let status = program_status(file, setup, found, trap_list);
+    let text = program_text(alloc, setup, file, found, groups, trap_list)?;
+    let status = program_status(file, setup, found, groups, trap_list);
     write_report(text.as_slice(), &[], status, out, err)
 }
 
@@ -178,9 +220,34 @@ pub fn write_unopened<O: Sink, E: Sink>(
     write_error(form, text.as_slice(), out, err)
 }
 
+/// Lines of what every accepted file has, if it is known what that is.
+fn groups_of(
+    alloc: Global,
+    commands: &[Command],
+    presets: &Presets,
+    trap_list: &TrapList<'_>,
+) -> Result<Vec<GuaranteeGroup>, AllocError>
+    ensures { IfSome trap_list.now.knowledge (λ k. EachFinds (command_trees commands.now) presets.now trap_list.now.names.items k.at_places.items)
+        → IfSome trap_list.now.knowledge (λ k. EachAcceptedHas (command_trees commands.now) presets.now trap_list.now.names.items k.at_end)
+        → IfOk result (λ groups. All (IsGuaranteed (command_trees commands.now) presets.now trap_list.now.names.items) groups.items) }
+{
+    match &trap_list.knowledge {
+        Some(knowledge) => {
+            guarantees(
+                alloc,
+                commands,
+                presets,
+                trap_list.names.as_slice(),
+                knowledge,
+            )
+        }
+        None => Ok(Vec::new(alloc)),
+    }
+}
+
 /// Reads the program in a file and writes a line for each finding and trap, and returns the status. A program that is refused has a line on
 /// standard error, and where it breaks off a second one at the command that has no END. As JSON all is on standard output, with what never
-/// happens besides.
+/// happens besides. Where that is asked for, it tells what every accepted file has.
 ///
 /// `Write` is returned where a stream failed, which then holds a part of its text from the start, and the other stream nothing.
 /// `Memory` is returned where memory ran out: nothing was written.
@@ -211,7 +278,22 @@ pub fn lint<P: Source, O: Sink, E: Sink>(
             }
         },
     };
-    let trap_list = traps(alloc, plan.commands(), &setup.presets, false)?;
+    let asked = if setup.guarantees {
+        Asked::Ends
+    } else {
+        Asked::Nothing
+    };
+    let trap_list = traps(alloc, plan.commands(), &setup.presets, asked)?;
     let found = findings(alloc, plan.commands(), &setup.presets, &trap_list)?;
-    write_program(alloc, setup, file, found.as_slice(), &trap_list, out, err)
+    let groups = groups_of(alloc, plan.commands(), &setup.presets, &trap_list)?;
+    write_program(
+        alloc,
+        setup,
+        file,
+        found.as_slice(),
+        groups.as_slice(),
+        &trap_list,
+        out,
+        err,
+    )
 }

@@ -1,28 +1,20 @@
 //! Why a trap is one: the variable that is to blame, and the numbers that it may be.
 
 ghost use Rattle.std.specs.Prelude.{◌≡◌, ◌++◌, IfOk, OnOk, option_map};
-ghost use Rattle.std.specs.Fmt.{signed_decimal};
 ghost use Rattle.ctd_lint_report.specs.calls.Reasons.{between_text, bounds_text, least_text, most_text, name_at, operand_text, reason_of, same_text};
 
+use crate::number::write_digits;
 use ctd_states::Operand;
 use ctd_token::Bytes;
 use ctd_traps::Trap;
-use itoa::Buffer;
 use std::alloc::{AllocError, Global};
-
-/// Appends a number.
-fn write_number(number: i128, text: &mut Vec<u8>) -> Result<(), AllocError>
-    ensures { OnOk result (text.new.items ≡ text.old.items ++ signed_decimal number) }
-{
-    text.extend_from_slice(Buffer::new().format(number).as_bytes())
-}
 
 /// Appends that a number is this one.
 fn write_same(number: i128, text: &mut Vec<u8>) -> Result<(), AllocError>
     ensures { OnOk result (text.new.items ≡ text.old.items ++ same_text number) }
 {
     text.extend_from_slice(b" is ")?;
-    text.extend_from_slice(Buffer::new().format(number).as_bytes())
+    write_digits(number, text)
 }
 
 /// Appends that a number is at least this one.
@@ -30,7 +22,7 @@ fn write_least(least: i128, text: &mut Vec<u8>) -> Result<(), AllocError>
     ensures { OnOk result (text.new.items ≡ text.old.items ++ least_text least) }
 {
     text.extend_from_slice(b" is only known to be at least ")?;
-    write_number(least, text)
+    write_digits(least, text)
 }
 
 /// Appends that a number is at most this one.
@@ -38,7 +30,7 @@ fn write_most(most: i128, text: &mut Vec<u8>) -> Result<(), AllocError>
     ensures { OnOk result (text.new.items ≡ text.old.items ++ most_text most) }
 {
     text.extend_from_slice(b" is only known to be at most ")?;
-    write_number(most, text)
+    write_digits(most, text)
 }
 
 /// Appends that a number is from one to another.
@@ -46,9 +38,9 @@ fn write_between(least: i128, most: i128, text: &mut Vec<u8>) -> Result<(), Allo
     ensures { OnOk result (text.new.items ≡ text.old.items ++ between_text least most) }
 {
     text.extend_from_slice(b" is only known to be from ")?;
-    write_number(least, text)?;
+    write_digits(least, text)?;
     text.extend_from_slice(b" to ")?;
-    write_number(most, text)
+    write_digits(most, text)
 }
 
 /// Appends what is known of a number by its least and its greatest value, if it has these.
@@ -74,7 +66,7 @@ fn write_bounds(
 }
 
 /// The name of a variable by its index, if there is one.
-fn name_at<'n>(names: &[&'n [u8]], index: usize) -> Option<&'n [u8]>
+pub(crate) fn name_at<'n>(names: &[&'n [u8]], index: usize) -> Option<&'n [u8]>
     ensures { option_map (λ name. name.now) result ≡ name_at names.now index }
 {
     names.get(index).copied()

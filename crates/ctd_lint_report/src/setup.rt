@@ -20,6 +20,8 @@ pub struct LintSetup {
     pub ignored: Vec<LintKind>,
     /// Whether a line tells of verdicts, and the status depends on them.
     pub verdicts: bool,
+    /// Whether it is told what every accepted file has.
+    pub guarantees: bool,
     /// The form.
     pub form: Form,
 }
@@ -30,6 +32,7 @@ impl Drop for LintSetup {
             presets: _,
             ignored: _,
             verdicts: _,
+            guarantees: _,
             form: _,
         } = self;
     }

@@ -4,47 +4,21 @@ ghost use Rattle.std.specs.Prelude.{◌≡◌, ◌++◌, OnOk, IfOk, if◌then�
 ghost use Rattle.std.specs.List.{list_any};
 ghost use Rattle.ctd_lint_report.specs.calls.Kinds.{is_unconditional, trap_name};
 ghost use Rattle.ctd_lint_report.specs.calls.Reasons.{reason_of};
-ghost use Rattle.ctd_lint_report.specs.calls.Report.{is_told, tells};
+ghost use Rattle.ctd_lint_report.specs.calls.Report.{is_told};
+ghost use Rattle.ctd_lint_report.specs.inner.Told.{is_among};
 ghost use Rattle.ctd_lint_report.specs.calls.Text.{kept, verdict_entry};
 ghost use Rattle.ctd_lint_report.specs.calls.Traps.{condition_text, every_text, is_kind_shown, is_open, is_place_before, is_same_place, is_shown, kept_traps, places_behind, places_text, some_element, some_shape, some_unconditional, tells_verdict, traps_lines, verdict_text};
 
 use crate::entry::{write_trap, write_verdict};
-use crate::kind::{
-    LintKind, is_element, is_ignored, is_shape, is_told_kind, is_unconditional, trap_name,
-};
+use crate::kind::{LintKind, is_element, is_ignored, is_shape, is_unconditional, trap_name};
 use crate::setup::{Form, LintSetup};
+use crate::told::{Told, is_among, is_same_place, told_by};
 use ctd_findings::Finding;
 use ctd_states::TrapKind;
 use ctd_token::Place;
 use ctd_traps::Trap;
 use itoa::Buffer;
 use std::alloc::{AllocError, Global};
-
-/// Whether two places are the same.
-fn is_same_place(a: Place, b: Place) -> bool
-    ensures { result ≡ is_same_place a b }
-{
-    a.line == b.line && a.column == b.column
-}
-
-/// Whether a finding tells a trap too.
-fn tells(finding: &Finding, trap: &Trap) -> bool
-    ensures { result ≡ tells finding.now trap.now }
-{
-    is_same_place(finding.place, trap.place) && is_told_kind(finding.remark.kind, trap.kind)
-}
-
-/// Whether one of some findings tells a trap too, but for those of kinds that are left out.
-fn is_told(found: &[Finding], ignored: &[LintKind], trap: &Trap) -> bool
-    ensures { result ≡ is_told (kept ignored.now found.now) trap.now }
-{
-    for finding in found {
-        if tells(finding, trap) && !is_ignored(finding.remark.kind.name(), ignored) {
-            return true;
-        }
-    }
-    false
-}
 
 /// Whether traps of a kind are shown.
 fn is_kind_shown(kind: TrapKind, setup: &LintSetup) -> bool
@@ -53,11 +27,11 @@ fn is_kind_shown(kind: TrapKind, setup: &LintSetup) -> bool
     !is_ignored(trap_name(kind), setup.ignored.as_slice())
 }
 
-/// Whether a trap is shown.
-fn is_shown(setup: &LintSetup, found: &[Finding], trap: &Trap) -> bool
-    ensures { result ≡ is_shown setup.now (is_told (kept setup.now.ignored.items found.now)) trap.now }
+/// Whether a trap is shown, where findings tell these traps.
+fn is_shown(setup: &LintSetup, told: &[Told], trap: &Trap) -> bool
+    ensures { result ≡ is_shown setup.now (is_among told.now) trap.now }
 {
-    is_kind_shown(trap.kind, setup) && !is_told(found, setup.ignored.as_slice(), trap)
+    is_kind_shown(trap.kind, setup) && !is_among(told, trap)
 }
 
 /// What is written of the traps that are shown.
@@ -71,9 +45,10 @@ pub(crate) fn traps_text(
 ) -> Result<Vec<u8>, AllocError>
     ensures { IfOk result (λ text. text.items ≡ traps_lines setup.now.form file.now (reason_of names.now) (kept_traps setup.now (is_told (kept setup.now.ignored.items found.now)) traps.now)) }
 {
+    let told = told_by(alloc, found, setup.ignored.as_slice())?;
     let mut text = Vec::new(alloc);
     for trap in traps {
-        if is_shown(setup, found, trap) {
+        if is_shown(setup, told.as_slice(), trap) {
             write_trap(alloc, setup.form, file, names, trap, &mut text)?;
         }
     }

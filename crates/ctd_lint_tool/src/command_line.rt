@@ -94,6 +94,7 @@ fn command<'a>(alloc: Global) -> Result<Command<'a>, AllocError>
         define_option(alloc),
         option(alloc, "ignore"),
         flag(alloc, "verdicts"),
+        flag(alloc, "guarantees"),
         flag(alloc, "json"),
         program_names(alloc),
     ]?;
@@ -201,6 +202,7 @@ fn setup_of(alloc: Global, matches: &ArgMatches<'_>) -> Result<Setup, LintFault>
         presets,
         ignored,
         verdicts: is_set(matches, "verdicts"),
+        guarantees: is_set(matches, "guarantees"),
         form: form_by(is_set(matches, "json")),
     };
     Ok(Setup { programs, report })

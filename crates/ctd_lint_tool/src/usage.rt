@@ -19,6 +19,7 @@ Report likely mistakes in each PROGRAM, and where it may stop without a verdict.
   -D, --define=<name>=<value>[,...]  preset variables
       --ignore=<kind>[,...]          leave out findings of these kinds
       --verdicts                     tell whether every data file gets a verdict
+      --guarantees                   tell what every accepted file has
       --json                         write an object of JSON a line
   -h, --help                         show this text
   -V, --version                      show the version

@@ -1,5 +1,5 @@
 -- What is known of the variables of a run.
-use Rattle.ctd_traps.proofs.Common.{AbstractState, AbstractValue, Bindings, Bor, Contains, Contains-push_cases, Context, Describes, JoinedState, List, MayBe, NameStands, Moment, None, OneDescribes, Option, Place, PossibleValues, Some, Value, [], EachStands, MayHave, ap, arith, at_drop_more, at_key, entries_in, named_values}
+use Rattle.ctd_traps.proofs.Common.{JoinedStates, IsFound, AbstractState, AbstractValue, Bindings, Bor, Contains, Contains-push_cases, Context, Describes, JoinedState, List, MayBe, NameStands, Moment, None, OneDescribes, Option, Place, PossibleValues, Some, Value, [], EachStands, MayHave, ap, arith, at_drop_more, at_key, entries_in, named_values}
 use Rattle.ctd_traps.proofs.Common.{drop, drop_all, false, get_or, inl, inr, ints, length, refl, subst, sym, value_at, ℕ, ◌++◌, ◌+◌, ◌<◌, ◌∷◌, ◌≡◌, ◌≤◌, ◌⊎◌, ◌∙◌}
 use Rattle.ctd_elements.proofs.Bounds.{all_at}
 use Rattle.ctd_elements.specs.calls.Blocks.{AllStand}
@@ -98,12 +98,12 @@ pub told_by : (g : Context) (state : AbstractState) (known : List Known) (h : Bi
 told_by g state known h told some = told g some.0 h some.1
 
 -- no places, and one more
-pub no_places : (g : Context) (states : List JoinedState) → AreKnown g states []
-no_places g states x has = absurd (none_in x has)
+pub no_places : (g : Context) (joined : JoinedStates) → AreKnown g joined []
+no_places g joined x has = absurd (none_in x has)
 
-pub place_pushed : (g : Context) (states : List JoinedState) (old all : List KnownAt) (y : KnownAt) → all ≡ old ++ y ∷ [] → ((h : Bindings) → OneDescribes g states y.place y.moment h → AreSo g.names.now h y.known.items) → AreKnown g states old → AreKnown g states all
-place_pushed g states old all y is one so x has = which (Contains-push_cases old y x (subst (λ l. Contains l x) is has))
+pub place_pushed : (g : Context) (joined : JoinedStates) (old all : List KnownAt) (y : KnownAt) → all ≡ old ++ y ∷ [] → ((h : Bindings) → IsFound g joined y.place y.moment h → AreSo g.names.now h y.known.items) → AreKnown g joined old → AreKnown g joined all
+place_pushed g joined old all y is one so x has = which (Contains-push_cases old y x (subst (λ l. Contains l x) is has))
   where
-    which : Contains old x ⊎ (y ≡ x) → (h : Bindings) → OneDescribes g states x.place x.moment h → AreSo g.names.now h x.known.items
+    which : Contains old x ⊎ (y ≡ x) → (h : Bindings) → IsFound g joined x.place x.moment h → AreSo g.names.now h x.known.items
     which (inl before) = so x before
-    which (inr same) = subst (λ (z : KnownAt). (h : Bindings) → OneDescribes g states z.place z.moment h → AreSo g.names.now h z.known.items) same one
+    which (inr same) = subst (λ (z : KnownAt). (h : Bindings) → IsFound g joined z.place z.moment h → AreSo g.names.now h z.known.items) same one

@@ -92,3 +92,15 @@ pub fn all_commands(
     list_block(commands, &mut found);
     found.finish()
 }
+
+/// All commands in a loop, in the order of the text.
+pub(crate) fn commands_in_loop(
+    alloc: Global,
+    repeated: &Loop,
+) -> Result<Vec<CommandInBlock<'_>>, AllocError> {
+    let Loop { between, body, .. } = repeated;
+    let mut found = Collector::new(alloc);
+    list_separator(between, &mut found);
+    list_block(body.as_slice(), &mut found);
+    found.finish()
+}

@@ -1,5 +1,6 @@
 //! What a walk may cost, and what it keeps.
 
+use crate::joined::Asked;
 use ctd_partitions::State;
 use ctd_program::{Action, Command};
 use ctd_states::Stop;
@@ -7,8 +8,8 @@ use ctd_states::Stop;
 /// What the steps of a walk may cost, by the cost of a name in a state: about a second.
 const STEPS: u64 = 3_000_000;
 
-/// What one pass may cost once these steps are spent: about a second more.
-const LAST_STEPS: u64 = 4_000_000;
+/// What one pass may cost once these steps are spent: less than a second more.
+const LAST_STEPS: u64 = 2_000_000;
 
 /// What a step costs in any case.
 const STEP: u64 = 4;
@@ -34,23 +35,23 @@ pub(crate) struct Budget {
     last_steps: u64,
     reserve: u64,
     pub(crate) is_inner: bool,
-    pub(crate) with_states: bool,
+    pub(crate) asked: Asked,
 }
 
 /// A budget of which one half is for other ways through loops.
-fn budget_of(steps: u64, last_steps: u64, with_states: bool) -> Budget {
+fn budget_of(steps: u64, last_steps: u64, asked: Asked) -> Budget {
     Budget {
         steps,
         last_steps,
         reserve: steps / 2,
         is_inner: false,
-        with_states,
+        asked,
     }
 }
 
 /// The budget of a walk.
-pub(crate) fn whole_budget(with_states: bool) -> Budget {
-    budget_of(STEPS, LAST_STEPS, with_states)
+pub(crate) fn whole_budget(asked: Asked) -> Budget {
+    budget_of(STEPS, LAST_STEPS, asked)
 }
 
 /// Whether the steps are spent, so that one pass is left in which each loop is walked once.
@@ -65,7 +66,7 @@ pub(crate) fn may_try(budget: &Budget) -> bool {
 
 /// A part of the budget, for one way through a loop: once it is spent, this way is given up.
 pub(crate) fn part_of(budget: &Budget) -> Budget {
-    budget_of(budget.steps / PART, 0, budget.with_states)
+    budget_of(budget.steps / PART, 0, budget.asked)
 }
 
 /// Pays what was paid of its part.

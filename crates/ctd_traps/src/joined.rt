@@ -4,7 +4,7 @@ ghost use Rattle.std.specs.Prelude.{◌≡◌, ◌<◌, ℕ, true, length, get_o
 ghost use Rattle.ctd_partitions.specs.calls.Partitions.{OneStands};
 ghost use Rattle.ctd_states.specs.declared.assign.Context.{Context};
 ghost use Rattle.ctd_store.specs.Store.{Bindings};
-ghost use Rattle.ctd_traps.specs.inner.Joined.{AreWithin, IsAdded, IsFound, IsOf, IsWithin};
+ghost use Rattle.ctd_traps.specs.inner.Joined.{AreWithin, IsAdded, IsFound, IsOf, IsWithin, is_asked};
 
 use ctd_partitions::{State, join, join_all};
 use ctd_states::{Context, Stop};
@@ -22,6 +22,43 @@ pub enum Moment {
     Done,
 }
 
+/// At which moments it is asked what is known of the variables.
+#[derive(Clone, Copy, PartialEq, Eq)]
+pub enum Asked {
+    /// At none.
+    Nothing,
+    /// Where a turn has ended, and where all commands are done.
+    Ends,
+    /// Also where a command begins.
+    All,
+}
+
+/// Whether it is asked what is known at a moment.
+pub(crate) fn is_asked(asked: Asked, moment: Moment) -> bool
+    ensures { result ≡ is_asked asked moment }
+{
+    match asked {
+        Asked::Nothing => false,
+        Asked::Ends => match moment {
+            Moment::Begins => false,
+            Moment::TurnEnded | Moment::Done => true,
+        },
+        Asked::All => true,
+    }
+}
+
+/// At which moments it is asked what is known, where this is so in a part too.
+fn asked_in_both(asked: Asked, in_part: Asked) -> Asked
+    ensures whole { (m : Moment) → is_asked result m ≡ true → is_asked asked m ≡ true }
+    ensures part { (m : Moment) → is_asked result m ≡ true → is_asked in_part m ≡ true }
+{
+    if asked == in_part {
+        asked
+    } else {
+        Asked::Nothing
+    }
+}
+
 /// The join of the states in which runs may be at a place and a moment.
 #[derive(Drop)]
 pub(crate) struct JoinedState {
@@ -30,17 +67,17 @@ pub(crate) struct JoinedState {
     pub(crate) state: State,
 }
 
-/// A joined state of each place and moment, if they are kept.
+/// A joined state of each place, at the moments of which it is asked.
 #[derive(Drop)]
 pub(crate) struct JoinedStates {
-    pub(crate) are_kept: bool,
+    pub(crate) asked: Asked,
     pub(crate) states: Vec<JoinedState>,
 }
 
 /// No joined states so far.
-pub(crate) fn no_states(alloc: Global, are_kept: bool) -> JoinedStates {
+pub(crate) fn no_states(alloc: Global, asked: Asked) -> JoinedStates {
     JoinedStates {
-        are_kept,
+        asked,
         states: Vec::new(alloc),
     }
 }
@@ -116,7 +153,7 @@ fn add_each(
     Ok(())
 }
 
-/// Adds the joined states of a part of a walk. Where it kept none, none are kept of the whole.
+/// Adds the joined states of a part of a walk. Of what is not asked in it, nothing is asked of the whole.
 pub(crate) fn add_part(
     context: Context,
     part: JoinedStates,
@@ -125,12 +162,12 @@ pub(crate) fn add_part(
     ensures others { OnOk result (IsWithin context.entry joined.old joined.new) }
     ensures added { OnOk result (IsWithin context.entry part joined.new) }
 {
-    joined.are_kept = joined.are_kept && part.are_kept;
+    joined.asked = asked_in_both(joined.asked, part.asked);
     add_each(context, part.states, &mut joined.states)?;
     Ok(())
 }
 
-/// Adds the states in which a run may be at a place and a moment, if joined states are kept.
+/// Adds the states in which a run may be at a place and a moment, if it is asked what is known then.
 pub(crate) fn add_partition(
     place: Place,
     moment: Moment,
@@ -141,7 +178,7 @@ pub(crate) fn add_partition(
     ensures others { OnOk result (IsWithin context.entry joined.old joined.new) }
     ensures found { OnOk result ((n : ℕ) (h : Bindings) → OneStands context.entry states.now n h → IsFound context.entry joined.new place moment h) }
 {
-    if !joined.are_kept {
+    if !is_asked(joined.asked, moment) {
         return Ok(());
     }
     if states.is_empty() {

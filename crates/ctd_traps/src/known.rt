@@ -11,7 +11,7 @@ ghost use Rattle.ctd_traps.specs.inner.Joined.{OneDescribes};
 ghost use Rattle.ctd_traps.specs.inner.Knowing.{AreKnown, IsJoinOf, IsKnowledge, SomeStands, TellsAll};
 
 use crate::block::all_commands;
-use crate::joined::{JoinedState, JoinedStates, Moment, is_of};
+use crate::joined::{JoinedState, JoinedStates, Moment, is_asked, is_of};
 use ctd_elements::Fact;
 use ctd_partitions::{State, copy_of_state, join};
 use ctd_program::Command;
@@ -153,17 +153,20 @@ pub struct KnownAt {
     pub known: Vec<Known>,
 }
 
-/// Adds what is known at a place and a moment, if a run comes to it.
+/// Adds what is known at a place and a moment, if that is asked and a run comes to it.
 fn add_place(
     context: Context,
     place: Place,
     moment: Moment,
-    states: &[JoinedState],
+    joined: &JoinedStates,
     found: &mut Vec<KnownAt>,
 ) -> Result<(), Stop>
-    ensures { OnOk result (AreKnown context.entry states.now found.old.items → AreKnown context.entry states.now found.new.items) }
+    ensures { OnOk result (AreKnown context.entry joined.now found.old.items → AreKnown context.entry joined.now found.new.items) }
 {
-    let all = known_at(context, place, moment, states)?;
+    if !is_asked(joined.asked, moment) {
+        return Ok(());
+    }
+    let all = known_at(context, place, moment, joined.states.as_slice())?;
     match all {
         Some(known) => {
             found.push(KnownAt {
@@ -177,20 +180,20 @@ fn add_place(
     }
 }
 
-/// What is known where each of some commands begins, and where a turn of it has ended, in the order of the text.
+/// What is known where each of some commands begins, and where a turn of it has ended, as far as that is asked, in the order of the text.
 fn known_at_places(
     context: Context,
     commands: &[Command],
-    states: &[JoinedState],
+    joined: &JoinedStates,
 ) -> Result<Vec<KnownAt>, Stop>
-    ensures { IfOk result (λ found. AreKnown context.entry states.now found.items) }
+    ensures { IfOk result (λ found. AreKnown context.entry joined.now found.items) }
 {
     let entries = all_commands(context.alloc, commands)?;
     let mut found = Vec::new(context.alloc);
     for entry in entries.as_slice() {
         let place = entry.command.place;
-        add_place(context, place, Moment::Begins, states, &mut found)?;
-        add_place(context, place, Moment::TurnEnded, states, &mut found)?;
+        add_place(context, place, Moment::Begins, joined, &mut found)?;
+        add_place(context, place, Moment::TurnEnded, joined, &mut found)?;
     }
     Ok(found)
 }
@@ -207,7 +210,7 @@ pub struct Knowledge {
 /// The place of the end of a program, where no command stands.
 pub(crate) const END: Place = Place { line: 0, column: 0 };
 
-/// What is known by joined states, if they are kept.
+/// What is known by joined states, if that is asked.
 pub(crate) fn knowledge_of(
     context: Context,
     commands: &[Command],
@@ -215,11 +218,10 @@ pub(crate) fn knowledge_of(
 ) -> Result<Option<Knowledge>, Stop>
     ensures { IfOk result (λ answer. IfSome answer (λ k. IsKnowledge context.entry joined.now k)) }
 {
-    if !joined.are_kept {
+    if !is_asked(joined.asked, Moment::Done) {
         return Ok(None);
     }
-    let states = joined.states.as_slice();
-    let at_end = known_at(context, END, Moment::Done, states)?;
-    let at_places = known_at_places(context, commands, states)?;
+    let at_end = known_at(context, END, Moment::Done, joined.states.as_slice())?;
+    let at_places = known_at_places(context, commands, joined)?;
     Ok(Some(Knowledge { at_end, at_places }))
 }

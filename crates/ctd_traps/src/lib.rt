@@ -27,7 +27,7 @@ mod widest;
 
 pub use block::{CommandInBlock, all_commands};
 pub use collector::Collector;
-pub use joined::Moment;
+pub use joined::{Asked, Moment};
 pub use known::{Knowledge, Known, KnownAt};
 pub use mentions::{MentionedName, Use, all_mentions, list_mentions, mentions_of};
 pub use note::{EventKind, Note};

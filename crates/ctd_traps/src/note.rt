@@ -7,7 +7,7 @@ ghost use Rattle.ctd_traps.specs.inner.Noted.{AreNoted, BegunIn, FoundIn, IsPart
 ghost use Rattle.ctd_traps.specs.declared.joined.Moment.TheVariants as moments;
 ghost use Rattle.std.specs.Prelude.{true, false};
 
-use crate::joined::{JoinedStates, Moment, add_part, add_partition, no_states};
+use crate::joined::{Asked, JoinedStates, Moment, add_part, add_partition, no_states};
 use crate::trap::{Trap, add_traps, report};
 use ctd_partitions::State;
 use ctd_states::{Context, Faults, Stop};
@@ -45,11 +45,11 @@ pub(crate) struct Noted {
 }
 
 /// Nothing is noted.
-pub(crate) fn nothing_noted(alloc: Global, with_states: bool) -> Noted {
+pub(crate) fn nothing_noted(alloc: Global, asked: Asked) -> Noted {
     Noted {
         traps: Vec::new(alloc),
         events: Vec::new(alloc),
-        joined: no_states(alloc, with_states),
+        joined: no_states(alloc, asked),
         less_known: None,
     }
 }

@@ -15,7 +15,7 @@ ghost use Rattle.std.specs.Borrow.{Bor};
 
 use crate::anything::all_traps;
 use crate::budget::whole_budget;
-use crate::joined::Moment;
+use crate::joined::{Asked, Moment};
 use crate::known::{END, Knowledge, knowledge_of};
 use crate::names::{Mentioned, mentioned_in};
 use crate::never::absent_in;
@@ -156,7 +156,7 @@ fn analyze(
     alloc: Global,
     commands: &[Command],
     presets: &Presets,
-    with_knowledge: bool,
+    asked: Asked,
     names: &[&[u8]],
     pairs: &[Pair],
 ) -> Result<Analysis, Stop>
@@ -170,8 +170,8 @@ fn analyze(
         pairs,
     };
     let first = first_state(context)?;
-    let mut noted = nothing_noted(alloc, with_knowledge);
-    let mut budget = whole_budget(with_knowledge);
+    let mut noted = nothing_noted(alloc, asked);
+    let mut budget = whole_budget(asked);
     let last = walk(commands, context, first, &mut noted, &mut budget)?;
     note_states(END, Moment::Done, context, last.as_slice(), &mut noted)?;
     let knowledge = knowledge_of(context, commands, &noted.joined)?;
@@ -213,7 +213,7 @@ pub fn traps<'p>(
     alloc: Global,
     commands: &'p [Command],
     presets: &'p Presets,
-    with_knowledge: bool,
+    asked: Asked,
 ) -> Result<TrapList<'p>, AllocError>
     ensures each { IfOk result (λ list. HasEachTrap (command_trees commands.now) presets.now (faults_of list.traps.items)) }
     ensures never { IfOk result (λ list. NeverHappens (command_trees commands.now) presets.now (events_of list.never.items)) }
@@ -225,7 +225,7 @@ pub fn traps<'p>(
         alloc,
         commands,
         presets,
-        with_knowledge,
+        asked,
         names.as_slice(),
         pairs.as_slice(),
     ) {

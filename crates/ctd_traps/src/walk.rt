@@ -236,7 +236,7 @@ fn unroll(
 ) -> Result<Option<Passage>, Stop>
     ensures { IfOk result (λ answer. IfSome answer (λ p. Passes context.entry states.now counting.now place repeated.now p)) }
 {
-    let mut inside = nothing_noted(context.alloc, budget.with_states);
+    let mut inside = nothing_noted(context.alloc, budget.asked);
     note_faults(place, counting.turns.faults, &mut inside)?;
     let facts = facts_allowed(states);
     let mut before = join_partitions(context, Vec::new(context.alloc), states)?;
@@ -277,7 +277,7 @@ fn try_candidate(
 ) -> Result<Tried, Stop>
     ensures { IfOk result (λ tried. IfSome tried.passage (λ p. PassesOnceBegun context.entry begun.now place repeated.now p)) }
 {
-    let mut inside = nothing_noted(context.alloc, budget.with_states);
+    let mut inside = nothing_noted(context.alloc, budget.asked);
     inside.less_known = less_known;
     let passed = go_round(
         repeated,
@@ -315,7 +315,7 @@ fn found_or_widest(
     if found.is_some() {
         return Ok(found);
     }
-    let widest = widest_candidate(context)?;
+    let widest = widest_candidate(context, repeated, begun.first.inside.as_slice())?;
     let tried = try_candidate(
         repeated,
         place,

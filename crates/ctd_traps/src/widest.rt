@@ -3,9 +3,15 @@
 ghost use Rattle.std.specs.Prelude.{IfOk};
 ghost use Rattle.ctd_partitions.specs.calls.Partitions.{PartitionIsWithin};
 
-use ctd_partitions::{State, join_state};
+use crate::block::commands_in_loop;
+use crate::mentions::all_mentions;
+use crate::roles::{Role, has_role, names_in_role};
+use ctd_partitions::{State, join_all, join_state};
+use ctd_program::Loop;
 use ctd_range::Range;
 use ctd_states::{AbstractValue, Context, Lengths, PossibleValues, Stop, copy_of};
+use std::alloc::{AllocError, Global};
+use std::collections::BTreeSet;
 
 /// All values.
 const ALL: PossibleValues = PossibleValues {
@@ -21,6 +27,22 @@ const ALL: PossibleValues = PossibleValues {
     }),
 };
 
+/// The names that a loop gives values, or whose values it forgets.
+fn changed_names(alloc: Global, repeated: &Loop) -> Result<BTreeSet<&[u8]>, AllocError> {
+    let commands = commands_in_loop(alloc, repeated)?;
+    let mentions = all_mentions(alloc, commands.as_slice())?;
+    let mut changed = names_in_role(alloc, Role::Gives, mentions.as_slice(), &[])?;
+    for mention in mentions.as_slice() {
+        if has_role(Role::Forgets, mention) {
+            changed.insert(mention.name.as_slice())?;
+        }
+    }
+    if let Some(counter) = &repeated.counter {
+        changed.insert(counter.name.as_slice())?;
+    }
+    Ok(changed)
+}
+
 /// Any value of a name, or none; the pin where a preset pins it without indices.
 fn any_value(pinned: AbstractValue) -> AbstractValue {
     AbstractValue {
@@ -30,12 +52,22 @@ fn any_value(pinned: AbstractValue) -> AbstractValue {
     }
 }
 
-/// The widest candidate for the states before the turns of a loop: one state, in which each name that is not pinned may have any value or none, and
-/// of which no fact is known. No contract speaks of it: it is checked where it is used.
-pub(crate) fn widest_candidate(context: Context) -> Result<Vec<State>, Stop> {
+/// The widest candidate for the states before the turns of a loop but the first: one state, in which each name that the loop changes may have any value
+/// or none, and the others have what they have before the first turn. No fact is known of it. No contract speaks of it: it is checked where it is used.
+pub(crate) fn widest_candidate(
+    context: Context,
+    repeated: &Loop,
+    first: &[State],
+) -> Result<Vec<State>, Stop> {
+    let changed = changed_names(context.alloc, repeated)?;
+    let before = join_all(context, first)?;
     let mut entries = Vec::new(context.alloc);
-    for pinned in context.pinned {
-        entries.push(any_value(*pinned))?;
+    for (i, pinned) in context.pinned.iter().enumerate() {
+        let value = match (context.names.get(i), before.entries.as_slice().get(i)) {
+            (Some(name), Some(value)) if !changed.contains(name) => *value,
+            _ => any_value(*pinned),
+        };
+        entries.push(value)?;
     }
     let facts = Vec::new(context.alloc);
     let mut candidate = Vec::new(context.alloc);

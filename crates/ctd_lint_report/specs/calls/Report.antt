@@ -3,8 +3,9 @@ use Rattle.ctd_findings.specs.declared.kind.Rank.TheVariants as ranks
 use Rattle.ctd_lint_report.specs.declared.setup.Form.TheVariants as forms
 use Rattle.ctd_token.specs.FaultText as faults
 use Rattle.std.specs.Prelude.{◌≡◌, ◌⊎◌, ◌+◌, ◌≤◌, ◌++◌, ◌&&◌, ℕ, Bool, List, [], ◌∷◌, All, length, max, codes, Option, Some, None, if◌then◌else◌}
-use Rattle.ctd_lint_report.specs.Prelude.{BeforeAfter, CommandList, Finding, Form, GaveBytes, Ghosts, IsPlaced, IsTrueOfRuns, LintSetup, LoadFault, Loads, MayFail, NeverHappens, PROGRAM_LIMIT, Place, Rank, Report}
+use Rattle.ctd_lint_report.specs.Prelude.{BeforeAfter, Bor, CommandList, Finding, Form, GaveBytes, Ghosts, GuaranteeGroup, IsGuaranteed, IsPlaced, IsTrueOfRuns, LintSetup, LoadFault, Loads, MayFail, NeverHappens, PROGRAM_LIMIT, Place, Rank, Report}
 use Rattle.ctd_lint_report.specs.Prelude.{Trap, TrapList, events_of, kind_row, list_any, on_err, on_out, places_of}
+use Rattle.ctd_lint_report.specs.calls.Guarantees.{guarantees_entry}
 use Rattle.ctd_lint_report.specs.calls.Kinds.{is_told_kind}
 use Rattle.ctd_lint_report.specs.calls.Reasons.{reason_of}
 use Rattle.ctd_lint_report.specs.calls.Text.{error_entry, findings_lines, kept, less_known_entry, never_lines}
@@ -90,25 +91,35 @@ less_known_lines form file [] less_known = []
 less_known_lines form file (b ∷ lines) None = []
 less_known_lines form file (b ∷ lines) (Some p) = less_known_entry form file p
 
--- what is told behind the traps: from which command on less is known, and what never happens
-abbrev pub notes_of : List ℕ → LintSetup → (Trap → Bool) → (Trap → Option (List ℕ)) → TrapList → List ℕ
-notes_of file setup told reason list =
-    less_known_lines setup.form file (traps_lines setup.form file reason (kept_traps setup told list.traps.items)) list.less_known ++ never_lines setup.form file list.never.items
+-- what every accepted file has, if that is asked for
+abbrev pub asked_guarantees : List ℕ → LintSetup → List (Bor (List ℕ)) → List GuaranteeGroup → List ℕ
+asked_guarantees file setup names groups = if setup.guarantees then guarantees_entry setup.form file names groups else []
 
--- the remarks of some findings, but for those that are left out, and of what never happens
-abbrev pub remarks_of : List ℕ → LintSetup → List Finding → TrapList → Remarks
-remarks_of file setup found trap_list = record {
+-- what is told behind the lines of traps: from which command on less is known, what never happens, and what every accepted file has
+abbrev pub notes_behind : List ℕ → LintSetup → List ℕ → List GuaranteeGroup → TrapList → List ℕ
+notes_behind file setup lines groups list =
+    less_known_lines setup.form file lines list.less_known ++ (never_lines setup.form file list.never.items ++ asked_guarantees file setup list.names.items groups)
+
+-- the same, by which traps are told, and with which reasons
+abbrev pub notes_of : List ℕ → LintSetup → (Trap → Bool) → (Trap → Option (List ℕ)) → List GuaranteeGroup → TrapList → List ℕ
+notes_of file setup told reason groups list = notes_behind file setup (traps_lines setup.form file reason (kept_traps setup told list.traps.items)) groups list
+
+-- the remarks of some findings, but for those that are left out, of what never happens, and of what every accepted file has
+abbrev pub remarks_of : List ℕ → LintSetup → List Finding → List GuaranteeGroup → TrapList → Remarks
+remarks_of file setup found groups trap_list = record {
   lines = findings_lines setup.form file (kept setup.ignored.items found);
   status = findings_status (kept setup.ignored.items found);
   told = is_told (kept setup.ignored.items found);
   reason = reason_of trap_list.names.items;
-  notes = notes_of file setup (is_told (kept setup.ignored.items found)) (reason_of trap_list.names.items) trap_list;
+  notes = notes_of file setup (is_told (kept setup.ignored.items found)) (reason_of trap_list.names.items) groups trap_list;
 }
 
--- the remarks are those of some findings, each of which has the place of a command, and is so in all runs if it says something of them, and of what never happens in any run
+-- the remarks are those of some findings, each of which has the place of a command, and is so in all runs if it says something of them, of what never happens in any run, and of lines that are so of every file that is accepted
 pub record AreRemarks (file : List ℕ) (setup : LintSetup) (program : CommandList) (trap_list : TrapList) (remarks : Remarks) : Type 0 where
   pub found : List Finding
   pub placed : All (IsPlaced (places_of program)) found
   pub meant : All (IsTrueOfRuns program setup.presets) found
   pub never : NeverHappens program setup.presets (events_of trap_list.never.items)
-  pub remarks_are : remarks ≡ remarks_of file setup found trap_list
+  pub groups : List GuaranteeGroup
+  pub guaranteed : All (IsGuaranteed program setup.presets trap_list.names.items) groups
+  pub remarks_are : remarks ≡ remarks_of file setup found groups trap_list

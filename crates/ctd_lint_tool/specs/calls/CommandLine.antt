@@ -26,6 +26,10 @@ ignore_rule = option_rule (codes "ignore") None Set
 abbrev pub verdicts_rule : Rule
 verdicts_rule = option_rule (codes "verdicts") None SetTrue
 
+-- --guarantees
+abbrev pub guarantees_rule : Rule
+guarantees_rule = option_rule (codes "guarantees") None SetTrue
+
 -- --json
 abbrev pub json_rule : Rule
 json_rule = option_rule (codes "json") None SetTrue
@@ -40,7 +44,7 @@ bare_linter = on_top (λ s. record s { has_version = true }) (new_app (codes "ct
 
 -- It is opened only by name: computed at words that are not known, what clap makes of it is very large.
 unfoldable pub linter : App
-linter = with_rule (with_rule (with_rule (with_rule (with_rule bare_linter define_rule) ignore_rule) verdicts_rule) json_rule) programs_rule
+linter = with_rule (with_rule (with_rule (with_rule (with_rule (with_rule bare_linter define_rule) ignore_rule) verdicts_rule) guarantees_rule) json_rule) programs_rule
 
 -- what clap finds in the words
 abbrev pub found_in : List Text → List Row
@@ -67,11 +71,12 @@ form_by is_json = if is_json then forms.Json else forms.Text
 abbrev pub IsTaken : List Text → Type 0
 IsTaken words = All IsUtf8 words × (errors_in words ≡ [])
 
--- the words are texts that clap takes, name these programs, presets and kinds, and ask for this of verdicts and for this form
+-- the words are texts that clap takes, name these programs, presets and kinds, and ask for this of verdicts and guarantees and for this form
 pub record IsLintSetup (words : List Text) (s : Setup) : Type 0 where
   pub taken : IsTaken words
   pub programs : all_of (codes "PROGRAM") (found_in words) ≡ Some s.programs.items
   pub presets : ArePresetsOf (first_of (codes "define") (found_in words)) s.report.presets
   pub ignored : AreKindsOf (first_of (codes "ignore") (found_in words)) s.report.ignored.items
   pub verdicts : s.report.verdicts ≡ is_on (codes "verdicts") (found_in words)
+  pub guarantees : s.report.guarantees ≡ is_on (codes "guarantees") (found_in words)
   pub form : s.report.form ≡ form_by (is_on (codes "json") (found_in words))

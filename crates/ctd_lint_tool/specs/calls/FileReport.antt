@@ -22,7 +22,7 @@ abbrev pub usage_text : LintFault → List ℕ
 usage_text faults.Words = codes "ctd-lint: bad arguments\nTry 'ctd-lint --help'.\n"
 usage_text faults.BadPreset = codes "ctd-lint: bad preset\n"
 usage_text (faults.UnknownKind name) = unknown_kind_text name
-usage_text faults.Help = codes "Usage: ctd-lint [OPTION]... PROGRAM...\nReport likely mistakes in each PROGRAM, and where it may stop without a verdict.\n  -D, --define=<name>=<value>[,...]  preset variables\n      --ignore=<kind>[,...]          leave out findings of these kinds\n      --verdicts                     tell whether every data file gets a verdict\n      --json                         write an object of JSON a line\n  -h, --help                         show this text\n  -V, --version                      show the version\n"
+usage_text faults.Help = codes "Usage: ctd-lint [OPTION]... PROGRAM...\nReport likely mistakes in each PROGRAM, and where it may stop without a verdict.\n  -D, --define=<name>=<value>[,...]  preset variables\n      --ignore=<kind>[,...]          leave out findings of these kinds\n      --verdicts                     tell whether every data file gets a verdict\n      --guarantees                   tell what every accepted file has\n      --json                         write an object of JSON a line\n  -h, --help                         show this text\n  -V, --version                      show the version\n"
 usage_text faults.Version = codes "ctd-lint 1.0 (whole-number profile)\n"
 usage_text faults.Memory = codes "ctd-lint: out of memory\n"
 

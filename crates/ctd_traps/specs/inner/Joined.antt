@@ -1,6 +1,9 @@
 -- The states in which runs may be at the places of a program.
-use Rattle.std.specs.Prelude.{◌≡◌, ◌⊎◌, ℕ, true, List, [], ◌∷◌}
+use Rattle.std.specs.Prelude.{◌≡◌, ◌⊎◌, ℕ, Bool, false, true, List, [], ◌∷◌}
 use Rattle.ctd_traps.specs.Prelude.{Bindings, Context, JoinedState, JoinedStates, Moment, Place, StateStands}
+use Rattle.ctd_traps.specs.declared.joined.Asked.{Asked}
+use Rattle.ctd_traps.specs.declared.joined.Asked.TheVariants as asks
+use Rattle.ctd_traps.specs.declared.joined.Moment.TheVariants as moments
 
 -- a joined state is the one of a place and a moment
 pub record IsOf (joined : JoinedState) (place : Place) (moment : Moment) : Type 0 where
@@ -26,10 +29,18 @@ AreWithin g some all = (place : Place) (moment : Moment) (h : Bindings) → OneD
 abbrev pub IsAdded : Context → JoinedState → List JoinedState → Type 0
 IsAdded g joined all = (place : Place) (moment : Moment) (h : Bindings) → Describes g joined place moment h → OneDescribes g all place moment h
 
--- some variables at a place and a moment are described, if joined states are kept
-abbrev pub IsFound : Context → JoinedStates → Place → Moment → Bindings → Type 0
-IsFound g joined place moment h = joined.are_kept ≡ true → OneDescribes g joined.states.items place moment h
+-- whether it is asked what is known at a moment
+abbrev pub is_asked : Asked → Moment → Bool
+is_asked asks.Nothing moment = false
+is_asked asks.Ends moments.Begins = false
+is_asked asks.Ends moments.TurnEnded = true
+is_asked asks.Ends moments.Done = true
+is_asked asks.All moment = true
 
--- all that is described by some is described by others, if both are kept
+-- some variables at a place and a moment are described, if it is asked what is known then
+abbrev pub IsFound : Context → JoinedStates → Place → Moment → Bindings → Type 0
+IsFound g joined place moment h = is_asked joined.asked moment ≡ true → OneDescribes g joined.states.items place moment h
+
+-- all that is described by some is described by others, at the moments of which both are asked
 abbrev pub IsWithin : Context → JoinedStates → JoinedStates → Type 0
 IsWithin g some all = (place : Place) (moment : Moment) (h : Bindings) → IsFound g some place moment h → IsFound g all place moment h

@@ -26,9 +26,9 @@ pub record IsJoinOf (g : Context) (all : Option AbstractState) (state both : Abs
   pub first : (h : Bindings) → SomeStands g all h → SomeStands g (Some both) h
   pub second : (n : ℕ) (h : Bindings) → StateStands g state n h → StateStands g both n h
 
--- all that is known at each place is so of the variables that joined states describe there
-abbrev pub AreKnown : Context → List JoinedState → List KnownAt → Type 0
-AreKnown g states found = (x : KnownAt) → Contains found x → (h : Bindings) → OneDescribes g states x.place x.moment h → AreSo g.names.now h x.known.items
+-- all that is known at each place is so of the variables that are found there
+abbrev pub AreKnown : Context → JoinedStates → List KnownAt → Type 0
+AreKnown g joined found = (x : KnownAt) → Contains found x → (h : Bindings) → IsFound g joined x.place x.moment h → AreSo g.names.now h x.known.items
 
 -- all that is known is so of the variables that are found
 pub record IsKnowledge (g : Context) (joined : JoinedStates) (k : Knowledge) : Type 0 where

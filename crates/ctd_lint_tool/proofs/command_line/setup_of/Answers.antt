@@ -25,5 +25,6 @@ returns-clause-setup c = λ words found. record {
   presets = subst (λ v. ArePresetsOf v c.in_ok-presets.presets) (c.value_of.ensures ∙ ap (first_of (codes "define")) found.1) c.in_ok-presets.ensures;
   ignored = subst (λ v. AreKindsOf v c.in_ok-ignored.ignored.items) (c.value_of-2.ensures ∙ ap (first_of (codes "ignore")) found.1) c.in_ok-ignored.ensures.kinds;
   verdicts = c.is_set.ensures ∙ ap (is_on (codes "verdicts")) found.1;
-  form = c.form_by.ensures ∙ ap form_by (c.is_set-2.ensures ∙ ap (is_on (codes "json")) found.1);
+  guarantees = c.is_set-2.ensures ∙ ap (is_on (codes "guarantees")) found.1;
+  form = c.form_by.ensures ∙ ap form_by (c.is_set-3.ensures ∙ ap (is_on (codes "json")) found.1);
 }

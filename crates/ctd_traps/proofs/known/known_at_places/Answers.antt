@@ -6,7 +6,7 @@ use Rattle.ctd_traps.proofs.known.known_at_places.Goals as goal
 pub loop-entry-init : goal.loop-entry-init
 loop-entry-init c =
     let none : c.new-found.result.items ≡ [] = search rules in
-    subst (AreKnown c.args.context c.args.states.now) (sym none) (no_places c.args.context c.args.states.now)
+    subst (AreKnown c.args.context c.args.joined.now) (sym none) (no_places c.args.context c.args.joined.now)
 
 pub loop-entry-preserved : goal.loop-entry-preserved
 loop-entry-preserved c = c.in_ok-add_place-2.ensures (c.in_ok-add_place.ensures c.loop-entry.invariant)

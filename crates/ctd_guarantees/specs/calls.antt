@@ -1,0 +1,2 @@
+-- What the contracts of public calls say.
+pub mod Guarantees

@@ -1,0 +1,2 @@
+-- What only the proofs of this crate use.
+pub mod Told
