@@ -2,8 +2,8 @@
 # built program; install, uninstall: PREFIX and DESTDIR as usual; deb, dist: a Debian package and archives of the built programs, in out/.
 # lib: builds the libraries for C and Python, and installs them as install does; page: makes the page for the browser in web/out; test-lib and
 # test-page test these (docs/EMBEDDING.md). fuzz: compares the checker with a reference in Python on COUNT generated cases of a SEED, or,
-# with MODE=--verdicts, --findings or --guarantees, what ctd-lint tells with runs. nightly: tests that take too long for test. bench: times the checker beside C
-# written by hand (bench/README.md). portable: makes both programs as one C file, and packs it into portable/; test-portable: tests it for other
+# with MODE=--verdicts, --findings or --guarantees, what ctd-lint tells with runs, and with --impossible what ctd-cover does not ask for. nightly: tests that
+# take too long for test. bench: times the checker beside C written by hand (bench/README.md). portable: makes both programs as one C file, and packs it into portable/; test-portable: tests it for other
 # systems; wasm: compiles it for WebAssembly, in out/wasm (portable/README.md).
 #
 # Without the toolchain the programs are compiled from the packed C file, if that was made of these sources.

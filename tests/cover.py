@@ -7,6 +7,8 @@ from __future__ import annotations
 
 import importlib.util
 import os
+import shutil
+import subprocess
 import sys
 import unittest
 from collections.abc import Callable, Sequence
@@ -110,6 +112,35 @@ class Cover(CompanionTest):
         self.assertEqual(self.told(program, "0", "9" + 9 * "\n")[1][0], "1:12: note: REP: never with one turn alone")
         self.assertEqual(self.told(program, "0", "1\n")[1][1], "1:12: note: REP: never with more than one turn")
         self.assertEqual(self.told(program, "1\n", "9" + 9 * "\n")[1][1], "1:12: note: REP: never without a turn")
+
+    def test_words_that_are_called_as_other_things_are(self) -> None:
+        status, lines = self.told('REGEX("least|true|low",s) NEWLINE', "least\n", words=["-t"])
+        self.assertEqual(lines[1], '1:1    REGEX("least|true|low",s)  5 (1.in:1:6) .. 5 (1.in:1:6) bytes  never took "true", "low"')
+
+    def test_what_is_known_of_a_name_on_one_way_alone(self) -> None:
+        # k has no value where has is 0, so that k is from 2 to n says nothing of n
+        program = 'INT(0,1,has) NEWLINE INT(1,100,n) NEWLINE IF(has == 1) INT(2,n,k) NEWLINE END IF(n == 1) STRING("single") NEWLINE END'
+        self.assertIn("1:79: note: IF: the test is never true", self.told(program, "0\n2\n", "1\n100\n100\n")[1])
+        self.assertEqual(self.told(program, "0\n1\nsingle\n", "1\n100\n2\n", words=["-t"])[1][5], "1:79   IF(n == 1)    true, false")
+        program = 'INT(1,9,n) NEWLINE REPI(i,n-1) SET(node=i+2) END IF(n==1) STRING("x") NEWLINE END'
+        self.assertIn("1:50: note: IF: the test is never true", self.told(program, "2\n", "9\n")[1])
+
+    def test_without_ctd_lint_what_cannot_be_is_asked_for(self) -> None:
+        shutil.copytree(TOP / "tools", self.folder / "tools")
+        self.write("p.ctd", "INT(2,3,n) REP(n) NEWLINE END")
+        self.write("1.in", "2\n\n")
+        self.write("2.in", "3\n\n\n")
+        call = [str(self.folder / "tools/ctd-cover"), "--checker", str(CHECKER), "p.ctd", "1.in", "2.in"]
+        told = b"p.ctd:1:12: note: REP: never without a turn, never with one turn alone\n2 commands watched in 2 files, 1 not fully tried\n"
+        ran = subprocess.run(call, cwd=self.folder, capture_output=True, check=False)
+        self.assertEqual((ran.stdout, ran.stderr), (told, b"ctd-cover: ctd-lint is not there, so what cannot be is asked for too\n"))
+        # nor is anything known from one that fails
+        shutil.copy(CHECKER, self.folder / "checktestdata")
+        (self.folder / "ctd-lint").write_text('#!/bin/sh\nprintf \'{"file":"0.ctd","line":1,"column":12,"rank":"never","kind":"begins"}\\n\'\nexit 3\n')
+        (self.folder / "ctd-lint").chmod(0o755)
+        call[2] = str(self.folder / "checktestdata")
+        ran = subprocess.run(call, cwd=self.folder, capture_output=True, check=False)
+        self.assertEqual((ran.stdout, ran.stderr), (told, b""))
 
     def test_turns_that_cannot_be(self) -> None:
         self.assertEqual(self.told("INT(2,3,n) REP(n) NEWLINE END", "2\n\n", "3\n\n\n")[0], 0)

@@ -30,8 +30,9 @@ from ctd_coverage import Skeleton, Thing  # noqa: E402
 from ctd_file_runs import FileRun  # noqa: E402
 from ctd_guesses import Guess, Reading, Watching  # noqa: E402
 from ctd_presets import presets_in  # noqa: E402
-from ctd_program import GRAMMAR, commands_of, cut, parse  # noqa: E402
+from ctd_program import BLOCKS, GRAMMAR, NAME, Grammar, commands_of, cut, parse  # noqa: E402
 from ctd_questions import Asker, Copy, Question, fresh_name, offset_at, place_at  # noqa: E402
+from ctd_trees import DEEDS  # noqa: E402
 
 CHECKER = checker_to_test()
 GENERATED = int(sys.argv[2]) if len(sys.argv) > 2 else 1_000
@@ -68,7 +69,7 @@ def told_of(program: bytes, copy: Copy, answer: Answer) -> tuple[object, ...]:
 
 def differences(program: bytes, words: Sequence[str], wanted: Answer, run: Callable[[bytes], Answer]) -> Iterator[str]:
     """How the answers to copies differ from that to the program. Where a run has no verdict, one with questions has the same message."""
-    skeleton = Skeleton(program, commands_of(program), fresh_name(program, words), [])
+    skeleton = Skeleton(program, commands_of(program), fresh_name(program, words), [], {})
     for is_bare in (True, False):
         copy = skeleton.copy(NeverFailing(skeleton, is_bare))
         answer = run(bytes(copy.text))
@@ -85,7 +86,7 @@ def read_and_confirmed(program: bytes, words: Sequence[str], data: bytes, run: C
     """Whether the checker confirms all that is found where data that fit are read here; None where they are not read."""
     if any(word.startswith("-D") or word == "--define" for word in words):
         return None
-    skeleton = Skeleton(program, commands_of(program), fresh_name(program, words), list(presets_in(words)))
+    skeleton = Skeleton(program, commands_of(program), fresh_name(program, words), list(presets_in(words)), {})
     guesses = Reading(skeleton, bool({"-w", "--whitespace-ok"} & set(words))).guesses(data)
     watching = Watching(skeleton)
     if not guesses:
@@ -152,6 +153,18 @@ class PutTogether(unittest.TestCase):
     def test_the_grammar_is_that_of_the_reference(self) -> None:
         self.assertEqual(GRAMMAR.strip(), printed_grammar().strip())
 
+    def test_what_each_command_does_is_known(self) -> None:
+        grammar = Grammar()
+        grammar.add_rules(GRAMMAR)
+        commands = [production.parts for production in grammar.productions["command"]]
+        self.assertEqual({word for word, *_ in commands}, set(DEEDS))
+        self.assertEqual({word for word, *rest in commands if "END" in rest}, set(BLOCKS))
+        for word, *rest in commands:
+            # (what stands in braces is as what stands before it)
+            arguments = [part for part in rest[1 : rest.index(")")] if part not in (",", "=") and part[0] != "{"] if rest else []
+            changed = [index for index in range(len(arguments)) if DEEDS[word].is_changing(index)]
+            self.assertEqual(changed, [index for index, part in enumerate(arguments) if part in ("variable", NAME)], word)
+
     def test_the_rows_of_the_tables(self) -> None:
         compared = 0
         for file in sorted(TABLES.glob("*.toml")):
@@ -167,6 +180,15 @@ class PutTogether(unittest.TestCase):
                 for difference in differences(program, words, wanted, lambda text, row=row: self.run_row(row, text)):
                     self.fail(f"{name}: {program[:200]!r}: {difference}")
         self.assertGreater(compared, 800)
+
+    def test_each_command_is_read(self) -> None:
+        program = b"""INT(0,9,n) SPACE STRING("a") REGEX("b",s) NEWLINE SET(k=n) ASSERT(k>0) UNSET(k)
+            REP(1) END REPI(i,1) END WHILE(n<0) END WHILEI(j,j<1) END IF(n>0) END EOF"""
+        self.assertEqual({command.word for command in commands_of(program)}, set(DEEDS))
+        skeleton = Skeleton(program, commands_of(program), b"q", [], {})
+        # of the loops WHILE alone has no turn, and the others have one
+        found = {skeleton.owners[thing][1] for thing in Reading(skeleton, False).guesses(b"1 ab\n")}
+        self.assertEqual(found, {"least", "greatest", "true", "tight: k>0", "none", "one", "most"})
 
     def test_the_rows_that_are_read(self) -> None:
         read = 0

@@ -19,10 +19,15 @@ passes, and tests that are never true or never false. The last line counts such 
 too it sees that wrong ones are complained of.
 
 With --guarantees it puts what ctd-lint says of every accepted file into the programs of cases whose data are accepted, as assertions: none may reject
-them. The last line counts the lines that were put, as passed, and the cases with a wrong one."""
+them. The last line counts the lines that were put, as passed, and the cases with a wrong one.
+
+With --impossible it holds what ctd-cover calls impossible, and the ranges that it knows, against runs of the built checker on data that fit. Of each
+four programs two compute with variables that may have no value, and one fills arrays. The last line counts the runs, as passed, and the programs in
+which something impossible happens. With --self-test too it sees that wrong claims are complained of."""
 import argparse
 import multiprocessing
 import os
+import re
 import sys
 import tempfile
 from collections.abc import Iterator, Sequence
@@ -37,16 +42,24 @@ from fuzzing.findings import IDLE_KINDS, NEVER, Held, hold, wrong_claims_seen
 from fuzzing.findings import complaints_of as complaints_of_findings
 from fuzzing.guarantees import Asserted, assert_all
 from fuzzing.guarantees import complaints_of as complaints_of_guarantees
+from fuzzing.possible import KINDS as KINDS_OF_THINGS
+from fuzzing.possible import RANGE, Tried, cases_to_try, try_all
+from fuzzing.possible import complaints_of as complaints_of_possible
+from fuzzing.possible import wrong_claims_seen as wrong_possible_seen
 from fuzzing.shrink import shrink
 from fuzzing.verdicts import Comparison, Linter, case_to_compare, complaints_of, wrong_reports_seen
 from fuzzing.verdicts import compare as compare_verdicts
 from reference.faults import LeftOut
+from reference.syntax import printed_grammar
 from reference.tool import Answer
 from reference.wrong_bodies import WRONG_BODIES, WrongBody
 from results import BUILT, BUILT_LINTER, print_counts
 from traps_told import TRAP_KINDS
 
 CASES_OF_SELF_TEST = 20_000
+# The words of the language, and those in a text.
+WORD = re.compile(rb"[A-Z]+")
+WORDS = {word.encode() for word in re.findall('"([A-Z]+)"', printed_grammar())}
 MOST_PRINTED = 10
 # So many cases have faults of each kind.
 MANY_CASES = 2_000
@@ -54,16 +67,18 @@ MANY_CASES = 2_000
 
 @dataclass
 class Summary:
-    """How many cases had one answer, how many were left out, and the numbers of those with two answers."""
+    """How many cases had one answer, how many were left out, the numbers of those with two answers, and the words in the programs."""
 
     passed: int = 0
     left_out: int = 0
     differing: list[int] = field(default_factory=list)
+    words: set[bytes] = field(default_factory=set)
 
     def add(self, other: "Summary") -> None:
         self.passed += other.passed
         self.left_out += other.left_out
         self.differing += other.differing
+        self.words |= other.words
 
 
 @contextmanager
@@ -92,7 +107,9 @@ def compare(program: Path, seed: int, numbers: Sequence[int]) -> Summary:
     summary = Summary()
     with checker_in_folder(program) as checker:
         for number in numbers:
-            found = answers(case_of(seed, number), checker)
+            case = case_of(seed, number)
+            summary.words.update(WORD.findall(case.program or b""))
+            found = answers(case, checker)
             if found is None:
                 summary.left_out += 1
             elif found[0] == found[1]:
@@ -131,7 +148,7 @@ def processor_seconds() -> float:
 
 
 def fuzz(program: Path, seed: int, numbers: range, jobs: int) -> int:
-    """Compares cases and prints those with two answers."""
+    """Compares cases and prints those with two answers. Of many cases some have to have each word of the language."""
     start = processor_seconds()
     summary = compare_all(program, seed, numbers, jobs)
     rate = len(numbers) / (processor_seconds() - start)
@@ -140,7 +157,10 @@ def fuzz(program: Path, seed: int, numbers: range, jobs: int) -> int:
             print(f"fuzz: case {number} of seed {seed} has two answers; made smaller:")
             print_case(shrink(case_of(seed, number), lambda case: differs(case, checker)), checker)
     print(f"fuzz: {rate:.0f} cases a second of a processor; {summary.left_out} were left out")
-    return print_counts(summary.passed, len(summary.differing))
+    missing = sorted(WORDS - summary.words) if len(numbers) >= MANY_CASES else []
+    for word in missing:
+        print(f"fuzz: no program has the word {word.decode()}")
+    return print_counts(summary.passed, len(summary.differing) + len(missing))
 
 
 def makes_a_difference(wrong: WrongBody, case: Case, right: Answer) -> bool:
@@ -241,23 +261,50 @@ def fuzz_guarantees(program: Path, linter: Path, seed: int, numbers: range, jobs
     return print_counts(found.lines, len(found.wrong))
 
 
-def self_test_of_findings(seed: int) -> int:
-    """Counts the wrong findings that are complained of in some case."""
+def try_part(program: Path, linter: Path, seed: int, numbers: Sequence[int]) -> Tried:
+    """Holds what is called impossible in the programs of these numbers against runs."""
+    with checker_in_folder(program) as checker:
+        return try_all(checker, linter, seed, numbers)
+
+
+def fuzz_impossible(program: Path, linter: Path, seed: int, numbers: range, jobs: int) -> int:
+    """Holds what is called impossible against runs, and prints cases in which it happens. Of many programs some have to have each kind."""
+    tried = Tried()
+    with multiprocessing.Pool(jobs) as pool:
+        for part in pool.starmap(try_part, [(program, linter, seed, numbers[job::jobs]) for job in range(jobs)]):
+            tried.add(part)
+    with checker_in_folder(program) as checker:
+        for number in sorted(tried.wrong)[:MOST_PRINTED]:
+            wrong = next(case for case in cases_to_try(seed, number) if complaints_of_possible(case, checker, linter))
+            case = shrink(wrong, lambda case: bool(complaints_of_possible(case, checker, linter)))
+            print(f"fuzz: in case {number} of seed {seed} something impossible happens; made smaller:\n{case}")
+            print("\n".join(complaints_of_possible(case, checker, linter)))
+    missing = [kind for kind in (*KINDS_OF_THINGS, RANGE) if kind not in tried.kinds] if len(numbers) >= MANY_CASES else []
+    for kind in missing:
+        print(f"fuzz: nothing impossible is of the kind {kind}")
+    print("fuzz: " + ", ".join(f"{kind.rstrip(': ')}: {count}" for kind, count in sorted(tried.kinds.items())))
+    return print_counts(tried.runs, len(tried.wrong) + len(missing))
+
+
+def count_seen(wrong: Iterator[tuple[str, int | None]]) -> int:
+    """Counts the wrong claims that are complained of in some case."""
     passed = failed = 0
-    for name, number in wrong_claims_seen(seed, CASES_OF_SELF_TEST):
+    for name, number in wrong:
         print(f"fuzz: {name}: " + (f"not seen by {CASES_OF_SELF_TEST} cases" if number is None else f"seen by case {number}"))
         passed, failed = passed + (number is not None), failed + (number is None)
     return print_counts(passed, failed)
 
 
-def self_test_of_verdicts(program: Path, linter: Path, seed: int) -> int:
-    """Counts the wrong reports that are complained of in some case."""
-    passed = failed = 0
+def self_test_of(given: argparse.Namespace, program: Path, linter: Path) -> int:
+    """Sees that what is wrong is complained of."""
     with checker_in_folder(program) as checker:
-        for name, number in wrong_reports_seen(checker, Linter(linter), seed, CASES_OF_SELF_TEST):
-            print(f"fuzz: {name}: " + (f"not seen by {CASES_OF_SELF_TEST} cases" if number is None else f"seen by case {number}"))
-            passed, failed = passed + (number is not None), failed + (number is None)
-    return print_counts(passed, failed)
+        if given.verdicts:
+            return count_seen(wrong_reports_seen(checker, Linter(linter), given.seed, CASES_OF_SELF_TEST))
+        if given.findings:
+            return count_seen(wrong_claims_seen(given.seed, CASES_OF_SELF_TEST))
+        if given.impossible:
+            return count_seen(wrong_possible_seen(checker, given.seed, CASES_OF_SELF_TEST))
+    return self_test(program, given.seed)
 
 
 def main() -> int:
@@ -272,21 +319,24 @@ def main() -> int:
     parser.add_argument("--verdicts", action="store_true", help="compares the checker with ctd-lint")
     parser.add_argument("--findings", action="store_true", help="holds what ctd-lint finds against runs")
     parser.add_argument("--guarantees", action="store_true", help="puts what ctd-lint says of accepted files into programs")
+    parser.add_argument("--impossible", action="store_true", help="holds what ctd-cover calls impossible against runs")
     parser.add_argument("--linter", type=Path, default=BUILT_LINTER, help="the ctd-lint (default: the one that was built here)")
     given = parser.parse_args()
     program, linter = given.checker.resolve(), given.linter.resolve()
-    for needed in [program, *([linter] if given.verdicts or given.findings or given.guarantees else [])]:
+    for needed in [program, *([linter] if given.verdicts or given.findings or given.guarantees or given.impossible else [])]:
         if not needed.is_file():
             parser.error(f"there is no {needed}: make build makes it")
     numbers = range(given.first, given.first + given.count)
+    if given.self_test:
+        return self_test_of(given, program, linter)
     if given.verdicts:
-        return self_test_of_verdicts(program, linter, given.seed) if given.self_test else fuzz_verdicts(program, linter, given.seed, numbers, given.jobs)
+        return fuzz_verdicts(program, linter, given.seed, numbers, given.jobs)
     if given.findings:
-        return self_test_of_findings(given.seed) if given.self_test else fuzz_findings(program, linter, given.seed, numbers, given.jobs)
+        return fuzz_findings(program, linter, given.seed, numbers, given.jobs)
     if given.guarantees:
         return fuzz_guarantees(program, linter, given.seed, numbers, given.jobs)
-    if given.self_test:
-        return self_test(program, given.seed)
+    if given.impossible:
+        return fuzz_impossible(program, linter, given.seed, numbers, given.jobs)
     if given.case is None:
         return fuzz(program, given.seed, numbers, given.jobs)
     with checker_in_folder(program) as checker:

@@ -37,7 +37,7 @@ if [ "$failed" -eq 0 ]; then
     count tests/cover.py
     count tests/cover_copies.py
     count tests/cover_runs.py
-    count tests/flow.py
+    count tests/possible.py
     count tests/jury.py
     count tests/package.py
     count tests/validators.py
@@ -58,5 +58,6 @@ if [ "$failed" -eq 0 ]; then
     count tests/fuzz.py --verdicts
     count tests/fuzz.py --findings
     count tests/fuzz.py --guarantees
+    count tests/fuzz.py --impossible --count 200
 fi
 end_of_counts

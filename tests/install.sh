@@ -64,7 +64,7 @@ share/checktestdata/tools/ctd-mutate
 share/checktestdata/tools/ctd-package
 share/checktestdata/tools/ctd-show
 share/checktestdata/tools/ctd-validate
-share/checktestdata/tools/ctd_bounds.py
+share/checktestdata/tools/ctd_asked.py
 share/checktestdata/tools/ctd_changes.py
 share/checktestdata/tools/ctd_companion.py
 share/checktestdata/tools/ctd_coverage.py
@@ -77,7 +77,6 @@ share/checktestdata/tools/ctd_edits.py
 share/checktestdata/tools/ctd_equal.py
 share/checktestdata/tools/ctd_file_runs.py
 share/checktestdata/tools/ctd_findings.py
-share/checktestdata/tools/ctd_flow.py
 share/checktestdata/tools/ctd_guesses.py
 share/checktestdata/tools/ctd_ladders.py
 share/checktestdata/tools/ctd_likely.py
@@ -87,6 +86,7 @@ share/checktestdata/tools/ctd_manual.py
 share/checktestdata/tools/ctd_messages.py
 share/checktestdata/tools/ctd_others.py
 share/checktestdata/tools/ctd_patterns.py
+share/checktestdata/tools/ctd_possible.py
 share/checktestdata/tools/ctd_presets.py
 share/checktestdata/tools/ctd_problem.py
 share/checktestdata/tools/ctd_processes.py
@@ -102,11 +102,11 @@ share/checktestdata/tools/ctd_second.py
 share/checktestdata/tools/ctd_server.py
 share/checktestdata/tools/ctd_settings.py
 share/checktestdata/tools/ctd_shares.py
-share/checktestdata/tools/ctd_state.py
 share/checktestdata/tools/ctd_statement.py
 share/checktestdata/tools/ctd_symbols.py
 share/checktestdata/tools/ctd_takers.py
 share/checktestdata/tools/ctd_text.py
+share/checktestdata/tools/ctd_trees.py
 share/checktestdata/tools/ctd_turns.py
 share/checktestdata/tools/ctd_untried.py
 share/checktestdata/tools/ctd_validators.py

@@ -82,6 +82,8 @@ PROBLEMS = [
         "INT(2,5,n) SPACE INT(1,3,m) NEWLINE REP(m) INT(1,n,u) SPACE INT(u+1,n,v) NEWLINE END",
         "",
         ["2 1\n1 2\n", "5 3\n1 2\n4 5\n3 4\n"],
+        # (that u is n nowhere is more than ctd-lint knows)
+        ["1:44: note: INT: took 1..4 of 1..n: the greatest is never taken (2.in:3:1)"],
     ),
     Problem(
         "a word that is shorter than its pattern says",
@@ -104,13 +106,23 @@ PROBLEMS = [
         ["1:57: note: IF: never decided by size<2"],
     ),
     Problem(
-        "a test that a list of words decides",
+        "a test that a range decides",
+        "INT(1,2,k) IF(k>2) SPACE INT(1,9) END NEWLINE",
+        "",
+        ["1\n", "2\n"],
+        ["1:12: note: IF: no data make the test true"],
+    ),
+    Problem(
+        "a test that a list of words decides: which strings a variable has ctd-lint does not know",
         "REGEX(\"add|del\",k) IF(k==\"delete\") SPACE INT(1,9) END NEWLINE",
         "",
         ["add\n", "del\n"],
-        ["1:20: note: IF: no data make the test true"],
+        ["1:20: note: IF: the test is never true", "1:36: note: no file runs these 2 commands"],
     ),
 ]
+
+# What is asked for though no data show it. (Where the goal was reached, more than one cell was found: that is more than ctd-lint knows.)
+ASKED = {"docs/COOKBOOK.md:reachable.ctd": ["17:1: note: WHILE: never with one turn alone"]}
 
 # Programs by their file, with presets that make them small, and data that try all of them.
 WHOLE: dict[str, tuple[str, Sequence[str]]] = {
@@ -166,7 +178,7 @@ def results() -> Iterator[tuple[str, list[str]]]:
         yield problem.title, list(faults_of(problem))
     for name, (presets, data) in WHOLE.items():
         status, lines = told(program_of(name), presets, data)
-        yield name, [] if status == 0 else [f"status {status}: {lines}"]
+        yield name, [] if lines[:-1] == ASKED.get(name, []) else [f"status {status}: {lines}"]
 
 
 if __name__ == "__main__":

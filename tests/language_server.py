@@ -360,9 +360,13 @@ exit 1"""
         text = "# preset: ax=1,x=2\nINT(1,ax) NEWLINE"
         self.assertEqual(self.findings(script, text), [(2, "the program does not mention: x", "unknown-preset", span(0, 15, 16))])
 
-    def test_of_the_whole_program(self) -> None:
+    def test_of_the_verdict_nothing_is_shown(self) -> None:
         script = """echo '{"file":"p.ctd","rank":"verdict","text":"every data file gets a verdict"}'"""
-        self.assertEqual(self.findings(script, "SPACE\nSPACE"), [(3, "every data file gets a verdict", "", span(0, 0, 5))])
+        self.assertEqual(self.findings(script, "SPACE\nSPACE"), [])
+
+    def test_a_note_without_a_kind(self) -> None:
+        script = """echo '{"file":"p.ctd","line":2,"column":1,"rank":"note","text":"less is known from here on"}'"""
+        self.assertEqual(self.findings(script, "SPACE\nSPACE"), [(4, "less is known from here on", "", span(1, 0, 5))])
 
     def test_a_linter_that_fails(self) -> None:
         for script, told in [("echo out of memory >&2; exit 2", "out of memory"), ("exit 139", "ended with status 139")]:

@@ -1,19 +1,19 @@
 """What files of test data try of a program: the things that are watched, and the copies of the program that ask for them."""
 from __future__ import annotations
 
-from collections.abc import Callable, Iterable, Mapping, Sequence
+from collections.abc import Callable, Iterator, Mapping, Sequence
 from dataclasses import dataclass, field
 from functools import cached_property
 from typing import Protocol
 
-from ctd_decisions import Effect, decisions, numbers_of, tight_comparisons
-from ctd_flow import LOOPS, Apart, Condition, Flow, Happening, Holds, Matched, Part, Took
+from ctd_decisions import Apart, Condition, Effect, Holds, decisions, numbers_of, tight_comparisons
 from ctd_patterns import alternatives_of, lengths_of
 from ctd_presets import Preset
 from ctd_program import Command, Tree
 from ctd_questions import GREATEST, LEAST, Copy, Question, literal, numeral
-from ctd_ranges import Range
+from ctd_ranges import Operand, Range, Ranges
 from ctd_takers import parted_integers
+from ctd_trees import LOOPS, all_commands
 
 
 @dataclass(frozen=True)
@@ -40,13 +40,15 @@ class Found:
 class Thing:
     """Something that is watched: whether a test is ever false; or the greatest number that an expression is, or the least (`sign` -1).
 
-    `bound`: a number that it does not pass. `is_taken`: an INT took the number, and what stands before it in the data is no digit."""
+    `bound`: a number that it does not pass. `is_taken`: an INT took the number, and what stands before it in the data is no digit. `is_asked`: files are
+    asked for it."""
 
     test: bytes = b""
     expression: bytes = b""
     sign: int = 0
     bound: int | None = None
     is_taken: bool = False
+    is_asked: bool = True
 
     def passes(self, best: int) -> bytes:
         """A test that is true where the number is better than the best."""
@@ -62,8 +64,11 @@ class Thing:
         return b"%b%b%b" % (self.expression, b"<=" if self.sign > 0 else b">=", numeral(best))
 
 
-# How the names of things begin that are parts of a test.
-TIGHT, DECIDED = "tight: ", "decided by "
+# How the names of things begin that are parts of a test, and words of a list.
+TIGHT, DECIDED, WORD = "tight: ", "decided by ", "word "
+
+# The bounds of an INT or of the lengths of a REGEX, and the numbers that tell whether they are taken.
+ENDS = {"low": "least", "high": "greatest"}
 
 # What was found of the things that happened.
 Findings = Mapping[Thing, Found]
@@ -79,10 +84,14 @@ def merged(first: Findings, second: Findings) -> dict[Thing, Found]:
 
 
 class Putter(Protocol):
-    """What puts something into a copy for things that are open, and may count the NEWLINEs in a variable."""
+    """What puts something into a copy for things that are open. It may count the NEWLINEs in a variable, and tell no turn, the first and later ones apart
+    by names that have values."""
 
     @property
     def counter(self) -> bytes | None: ...
+
+    @property
+    def is_telling_turns(self) -> bool: ...
 
     def is_open(self, thing: Thing) -> bool: ...
 
@@ -100,7 +109,7 @@ class Block:
     is_entered: Callable[[Findings], bool]
     parent: Block | None = None
     # what may happen that a run comes here
-    ways: Sequence[Happening] = ()
+    ways: Sequence[Thing] = ()
 
     def is_run(self, found: Findings) -> bool:
         """Whether some file runs these commands."""
@@ -114,17 +123,29 @@ class Watched:
     command: Command
     block: Block
     things: dict[str, Thing] = field(default_factory=dict)
-    # what happens where a thing does, for those of which it is asked whether they can be
-    happenings: dict[str, Happening] = field(default_factory=dict)
+    # the bounds of which the number is known: files are asked for the least and the greatest number, which tell whether these are taken
+    ends: dict[str, Thing] = field(default_factory=dict)
     # for an INT its bounds, for a REGEX its lengths: what is known of them
     low: Range = Range()
     high: Range = Range()
 
-    def watch(self, name: str, thing: Thing | None, conditions: Sequence[Condition] = (), part: Part = Part.ANY) -> None:
-        """Adds something that may happen here, with a thing where it is asked for by itself."""
-        self.happenings[name] = Happening(self.command, conditions, part)
-        if thing:
-            self.things[name] = thing
+    def thing(self, name: str) -> Thing:
+        return self.things[name] if name in self.things else self.ends[name]
+
+    def open_things(self, found: Findings) -> Iterator[Thing]:
+        """What did not happen, but for numbers."""
+        seen = self.found_by_name(found)
+        return (thing for name, thing in {**self.things, **self.ends}.items() if name not in seen and not thing.sign)
+
+    def found_by_name(self, found: Findings) -> dict[str, Found]:
+        """What was found of the things and the ends."""
+        names = [*self.things, *(bound for bound in self.ends if self.is_taken(bound, found))]
+        things = {name: self.things[name if name in self.things else ENDS[name]] for name in names}
+        return {name: found[thing] for name, thing in things.items() if thing in found}
+
+    def add_bound(self, name: str, test: bytes, known: Range) -> None:
+        """Adds that a bound is taken, where a test is false; files are not asked for one of which the number is known."""
+        (self.things if known.only is None else self.ends)[name] = Thing(test=test, is_asked=known.only is None)
 
     def is_taken(self, bound: str, found: Findings) -> bool:
         """Whether a bound of an INT or of the lengths of a REGEX is taken, or not known."""
@@ -133,24 +154,23 @@ class Watched:
         only, end = (self.low.only, "least") if bound == "low" else (self.high.only, "greatest")
         return only is None or ((best := found.get(self.things[end])) is not None and best.value == only)
 
-    def add_decisions(self, skeleton: Skeleton, wanted: bool | None, part: Part = Part.ANY) -> list[Thing]:
+    def add_decisions(self, skeleton: Skeleton, wanted: bool | None) -> list[Thing]:
         """Watches the sides of && and || in the test, which has to have a value, or may have both."""
         for effect in decisions(self.command.arguments[-1], wanted):
-            self.watch(f"{DECIDED}{text_of(skeleton, effect)}", skeleton.thing_of_effect(effect), effect.conditions, part)
+            self.things[f"{DECIDED}{text_of(skeleton, effect)}"] = skeleton.thing_of_effect(effect)
         return [thing for name, thing in self.things.items() if name.startswith(DECIDED)]
 
 
 class Skeleton:
     """A program with the places in it at which questions can be put."""
 
-    def __init__(self, text: bytes, commands: list[Command], fresh: bytes, presets: Sequence[Preset]) -> None:
-        self.text, self.fresh = text, fresh
+    def __init__(self, text: bytes, commands: list[Command], fresh: bytes, presets: Sequence[Preset], ranges: Ranges) -> None:
+        self.text, self.fresh, self.presets, self.ranges = text, fresh, presets, ranges
         self.pieces: list[Piece] = []
         self.at = 0
         self.watched: list[Watched] = []
         self.blocks: list[Block] = []
         self.taken: set[bytes] = set()
-        self.flow = Flow(commands, presets)
         self.numbers = numbers_of(commands, presets)
         self.parted = parted_integers(commands)
         self.add_block(Block(commands, lambda found: True))
@@ -172,11 +192,12 @@ class Skeleton:
     @cached_property
     def owners(self) -> dict[Thing, tuple[Watched, str]]:
         """The command of each thing, and its name there."""
-        return {thing: (watched, name) for watched in self.watched for name, thing in watched.things.items()}
+        return {thing: (watched, name) for watched in self.watched for name, thing in {**watched.things, **watched.ends}.items()}
 
-    @property
-    def things(self) -> Iterable[Thing]:
-        return self.owners
+    @cached_property
+    def things(self) -> Sequence[Thing]:
+        """Those for which files are asked."""
+        return [thing for thing in self.owners if thing.is_asked]
 
     @cached_property
     def opposites(self) -> dict[Thing, Thing]:
@@ -191,7 +212,7 @@ class Skeleton:
             return False
         if name not in ("least", "greatest"):
             return True
-        has_words = watched.command.word == "REGEX" and any(one in watched.things for one in watched.happenings if one not in ("low", "high"))
+        has_words = any(one.startswith(WORD) for one in watched.things)
         return not has_words and any(not watched.is_taken(bound, found) for bound in ("low", "high"))
 
     def question(self, thing: Thing, text: bytes) -> Question:
@@ -258,6 +279,10 @@ class Skeleton:
     def source(self, tree: Tree) -> bytes:
         return self.text[tree.offset : tree.end]
 
+    def range_of(self, tree: Tree) -> Range:
+        """What is known of the bound of an INT, or of the count of a loop."""
+        return self.ranges.get(tree.offset, Range())
+
     def condition(self, one: Condition) -> bytes:
         """A condition of a part of a test as a test."""
         if isinstance(one, Holds):
@@ -283,7 +308,7 @@ class ThingQuestion(Question):
 def add_taker(skeleton: Skeleton, watched: Watched, behind: int, target: Tree | None, name: bytes) -> None:
     """An INT or a REGEX that gets a name of ours for what it takes, where something of it is open; its own variable is set behind the
     questions."""
-    command, things = watched.command, list(watched.things.values())
+    command, things = watched.command, [*watched.things.values(), *watched.ends.values()]
     skeleton.verbatim(behind)
     rest = skeleton.text[behind : command.end]
     setting = b"SET(%b=%b) " % (skeleton.source(target), name) if target else b""
@@ -301,16 +326,21 @@ def add_taker(skeleton: Skeleton, watched: Watched, behind: int, target: Tree | 
     skeleton.at = command.end
 
 
+def bounding_operands(commands: Sequence[Command]) -> list[Operand]:
+    """The bounds of INTs and the counts of loops, of which it is watched how near numbers come to them."""
+    places = {"INT": slice(0, 2), "REP": slice(0, 1), "REPI": slice(1, 2)}
+    return [Operand(command, tree) for command in all_commands(commands) for tree in command.arguments[places.get(command.word, slice(0))]]
+
+
 def add_integer(skeleton: Skeleton, watched: Watched) -> None:
     command = watched.command
     low, high, *target = command.arguments
     name = skeleton.variable()
     skeleton.taken.add(name)
-    watched.low, watched.high = skeleton.flow.range_at(command, low), skeleton.flow.range_at(command, high)
+    watched.low, watched.high = skeleton.range_of(low), skeleton.range_of(high)
     is_taken = command in skeleton.parted
     for bound, tree, known in (("low", low, watched.low), ("high", high, watched.high)):
-        thing = Thing(test=b"%b!=(%b)" % (name, skeleton.source(tree))) if known.only is None else None
-        watched.watch(bound, thing, [Took(tree)])
+        watched.add_bound(bound, b"%b!=(%b)" % (name, skeleton.source(tree)), known)
     watched.things["least"] = Thing(expression=name, sign=-1, bound=watched.low.least, is_taken=is_taken)
     watched.things["greatest"] = Thing(expression=name, sign=1, bound=watched.high.greatest, is_taken=is_taken)
     add_taker(skeleton, watched, high.end, target[0] if target else None, name)
@@ -323,31 +353,30 @@ def add_regex(skeleton: Skeleton, watched: Watched) -> None:
     watched.low, watched.high = Range(lengths.least, lengths.least), Range(lengths.greatest, lengths.greatest)
     watched.things["least"] = Thing(expression=length, sign=-1, bound=lengths.least or 0)
     watched.things["greatest"] = Thing(expression=length, sign=1, bound=lengths.greatest)
-    watched.watch("low", None, [Matched(None, watched.low)])
-    watched.watch("high", None, [Matched(None, watched.high)])
+    if lengths.least is not None and lengths.greatest is not None:
+        watched.add_bound("low", b"%b!=%d" % (length, lengths.least), watched.low)
+        watched.add_bound("high", b"%b!=%d" % (length, lengths.greatest), watched.high)
     alternatives = alternatives_of(pattern)
     for one in alternatives if len(alternatives) > 1 else []:
-        watched.watch(one.decode(), Thing(test=b"%b!=%b" % (name, literal(one))), [Matched(frozenset({one}), Range())])
+        watched.things[f"{WORD}{one.decode()}"] = Thing(test=b"%b!=%b" % (name, literal(one)))
     add_taker(skeleton, watched, pattern.end, target[0] if target else None, name)
 
 
 def add_choice(skeleton: Skeleton, watched: Watched) -> None:
     command, block = watched.command, watched.block
-    yes, no = Thing(test=b"0!=0"), Thing(test=b"0!=0")
-    watched.watch("true", yes, part=Part.TRUE)
-    watched.watch("false", no, part=Part.FALSE)
+    yes, no = watched.things["true"], watched.things["false"] = Thing(test=b"0!=0"), Thing(test=b"0!=0")
     skeleton.verbatim(command.offset)
     skeleton.put_all(watched.add_decisions(skeleton, None))
     skeleton.verbatim(command.head_end)
     skeleton.put_all([yes])
-    skeleton.add_block(Block(command.body, lambda found: yes in found, block, [watched.happenings["true"]]))
+    skeleton.add_block(Block(command.body, lambda found: yes in found, block, [yes]))
     if command.otherwise is None:
         skeleton.verbatim(command.end - len("END"))
         skeleton.put_all([no], b" ELSE ")
     else:
         skeleton.verbatim(command.else_end)
         skeleton.put_all([no])
-        skeleton.add_block(Block(command.otherwise, lambda found: no in found, block, [watched.happenings["false"]]))
+        skeleton.add_block(Block(command.otherwise, lambda found: no in found, block, [no]))
 
 
 def add_loop(skeleton: Skeleton, watched: Watched) -> None:
@@ -355,32 +384,29 @@ def add_loop(skeleton: Skeleton, watched: Watched) -> None:
     command, is_counted = watched.command, watched.command.word.startswith("REP")
     turns = b"(%b)" % skeleton.source(command.arguments[-1]) if is_counted else skeleton.variable()
     one, more = Thing(test=turns + b"!=1"), Thing(test=turns + b"<=1")
-    watched.watch("none", Thing(test=turns + b"!=0"), part=Part.NONE)
-    watched.watch("one", one, part=Part.ONE)
-    watched.watch("more", more, part=Part.MORE)
-    most = skeleton.flow.range_at(command, command.arguments[-1]).greatest if is_counted else None
-    watched.things["most"] = Thing(expression=turns, sign=1, bound=most)
+    most = Thing(expression=turns, sign=1, bound=skeleton.range_of(command.arguments[-1]).greatest if is_counted else None)
+    watched.things.update(none=Thing(test=turns + b"!=0"), one=one, more=more, most=most)
     things = list(watched.things.values())
     # (a separator comes between the test and the commands, and may change what the test is about)
-    sides = [] if is_counted or command.separator else watched.add_decisions(skeleton, None, Part.TEST)
+    sides = [] if is_counted or command.separator else watched.add_decisions(skeleton, None)
 
-    def unless_closed(text: bytes) -> Piece:
-        return lambda copy, putter: copy.add(text) if any(putter.is_open(thing) for thing in things) else None
+    def unless_closed(text: bytes, telling: bytes = b"") -> Piece:
+        return lambda copy, putter: copy.add(text + telling * putter.is_telling_turns) if any(putter.is_open(thing) for thing in things) else None
 
     skeleton.verbatim(command.offset)
     if is_counted:
         skeleton.put_all(things)
     else:
-        skeleton.insert(unless_closed(b"SET(%b=0) " % turns))
+        skeleton.insert(unless_closed(b"SET(%b=0) " % turns, b"UNSET(%bf,%bl) " % (turns, turns)))
     if command.separator:
-        between = Block([command.separator], lambda found: more in found, watched.block, [watched.happenings["more"]])
+        between = Block([command.separator], lambda found: more in found, watched.block, [more])
         skeleton.add_separator(command.separator, between)
     skeleton.verbatim(command.head_end)
     if not is_counted:
-        skeleton.insert(unless_closed(b" SET(%b=%b+1) " % (turns, turns)))
+        telling = b"IF(%b==1) SET(%bf=1) ELSE SET(%bl=1) END " % (turns, turns, turns)
+        skeleton.insert(unless_closed(b" SET(%b=%b+1) " % (turns, turns), telling))
         skeleton.put_all([more, *sides])
-    ways = [watched.happenings["one"], watched.happenings["more"]]
-    skeleton.add_block(Block(command.body, lambda found: one in found or more in found, watched.block, ways))
+    skeleton.add_block(Block(command.body, lambda found: one in found or more in found, watched.block, [one, more]))
 
 
 def end_loop(skeleton: Skeleton, watched: Watched) -> None:
@@ -390,7 +416,7 @@ def end_loop(skeleton: Skeleton, watched: Watched) -> None:
 
 def add_assertion(skeleton: Skeleton, watched: Watched) -> None:
     for effect in tight_comparisons(watched.command.arguments[0], skeleton.numbers):
-        watched.watch(f"{TIGHT}{text_of(skeleton, effect)}", skeleton.thing_of_effect(effect), effect.conditions)
+        watched.things[f"{TIGHT}{text_of(skeleton, effect)}"] = skeleton.thing_of_effect(effect)
     watched.add_decisions(skeleton, True)
 
 

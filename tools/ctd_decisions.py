@@ -3,15 +3,34 @@ from __future__ import annotations
 
 from collections.abc import Collection, Iterator, Sequence
 from dataclasses import dataclass
+from typing import Union
 
-from ctd_flow import Apart, Condition, Holds
 from ctd_presets import Preset
 from ctd_program import Command, Node, Tree
-from ctd_ranges import all_commands, name_of
-from ctd_state import SIGNS, in_parentheses, is_variable
+from ctd_trees import DEEDS, SIGNS, all_commands, changed_by, in_parentheses, is_variable, name_of
 
 # Of a test with more sides than so many none is watched: the text of what holds before each would be long.
 MOST_SIDES = 50
+
+
+@dataclass(frozen=True)
+class Holds:
+    """That a test has a value."""
+
+    test: Tree
+    wanted: bool
+
+
+@dataclass(frozen=True)
+class Apart:
+    """That a number lies above another by just so much, or with 0 that two values are the same."""
+
+    left: Tree
+    right: Tree
+    distance: int
+
+
+Condition = Union[Holds, Apart]
 
 
 @dataclass(frozen=True)
@@ -89,15 +108,10 @@ def numbers_of(commands: Sequence[Command], presets: Sequence[Preset]) -> frozen
     strings = {preset.name.encode() for preset in presets if isinstance(preset.value, bytes)}
     given: list[tuple[bytes, Tree]] = []
     for command in all_commands(commands):
-        arguments = command.arguments
-        if command.word == "SET":
-            given += [(name_of(target), value) for target, value in zip(arguments[::2], arguments[1::2])]
-        elif command.word == "REGEX":
-            strings |= {name_of(target) for target in arguments[1:]}
-        elif command.word == "INT":
-            numbers |= {name_of(target) for target in arguments[2:]}
-        elif command.word in ("REPI", "WHILEI"):
-            numbers.add(name_of(arguments[0]))
+        names = [name_of(target) for target in changed_by(command)]
+        numbers.update(names if DEEDS[command.word].gives is int else [])
+        strings.update(names if DEEDS[command.word].gives is bytes else [])
+        given += zip(names, command.arguments[1::2]) if command.word == "SET" else []
     numbers = (numbers | {name for name, _ in given}) - strings
     while wrong := {name for name, value in given if name in numbers and not is_number(value, numbers)}:
         numbers -= wrong

@@ -9,9 +9,9 @@ from dataclasses import dataclass
 from enum import IntEnum
 from pathlib import Path
 
-from ctd_companion import FITS, REJECTED, Answer, Checker, find_program, printable, text_of
+from ctd_companion import FITS, REJECTED, Answer, Checker, printable, text_of
 from ctd_document import Document, Earlier
-from ctd_findings import LINTER, Finding, findings_in
+from ctd_findings import LINTER, Finding, find_linter, findings_in
 from ctd_refusals import expected_words, words_of_presets, words_of_refusal
 from ctd_processes import started
 from ctd_symbols import head_end, open_part, preset_mentions, tokens_in
@@ -60,7 +60,7 @@ class Tools:
 
     @staticmethod
     def beside(checker: str) -> Tools:
-        return Tools(checker, find_program(LINTER, Path(checker).parent))
+        return Tools(checker, find_linter(checker))
 
 
 def diagnostics(tools: Tools, document: Document, presets: str, is_wanted: Callable[[], bool]) -> list[Diagnostic]:

@@ -5,16 +5,17 @@ from __future__ import annotations
 import re
 from collections.abc import Iterator, Sequence
 
+from ctd_asked import Linter
 from ctd_companion import printable
 from ctd_diagnostics import define_option
 from ctd_document import Document, Earlier
-from ctd_flow import Flow
 from ctd_manual import COMMANDS, Entry, manual
-from ctd_presets import presets_in
 from ctd_program import NAME, Command, Token
-from ctd_ranges import Range, all_commands
+from ctd_questions import fresh_name
+from ctd_ranges import Measured, Operand, Range
 from ctd_symbols import Block, Use, names_of_presets, next_tokens
 from ctd_text import Json
+from ctd_trees import all_commands
 
 # Numbers of the protocol: kinds of completions, that one is a snippet, and kinds of symbols, of which an array stands for a loop and a boolean
 # for a branch.
@@ -29,6 +30,8 @@ TYPED = re.compile(rb"(?:[A-Z]+|[a-z][a-z0-9]*)?\Z")
 PLACEHOLDER = re.compile("[a-z]+")
 # How many of the commands that set a name are shown.
 MOST_COMMANDS = 8
+# A bound from here on only says that a number grows with the turns of a loop.
+UNTOLD = 2**63
 # How deep the outline goes: no program nests deeper.
 MOST_DEPTH = 200
 
@@ -37,11 +40,11 @@ class CannotRename(Exception):
     """A name cannot have another name: a line that says why."""
 
 
-def hover(document: Document, position: Json, presets: str) -> Json | None:
-    """What the word at a position does, or what is known of the name there."""
+def hover(document: Document, position: Json, presets: str, linter: str | None) -> Json | None:
+    """What the word at a position does, or what is known of the name there; of its values what ctd-lint knows, where that is there."""
     source = document.read_at(position)
     if mention := source.mention_at(position):
-        return shown("\n\n".join(told_of_name(source, mention.name, presets)), source.range_of(mention))
+        return shown("\n\n".join(told_of_name(source, mention.name, presets, linter)), source.range_of(mention))
     word = source.word_at(position)
     if word is None:
         return None
@@ -63,10 +66,10 @@ def in_line(document: Document | Earlier, offset: int) -> str:
     return f"`` {document.head(offset)} `` in line {document.line(offset)}"
 
 
-def told_of_name(document: Document | Earlier, name: bytes, presets: str) -> Iterator[str]:
+def told_of_name(document: Document | Earlier, name: bytes, presets: str, linter: str | None) -> Iterator[str]:
     """What is known of a name: its values, and which commands set it."""
     mentions = document.mentions_of(name)
-    yield f"`{name.decode()}`{known_values(document, name, presets)}"
+    yield f"`{name.decode()}`{known_values(document, name, presets, linter)}"
     given = [f"preset in line {document.line(one.offset)}" for one in mentions if one.use is Use.PRESET]
     given += ["preset in the settings"] if name in names_of_presets(presets) else []
     commands = dict.fromkeys(one.command for one in mentions if one.use is Use.SET)
@@ -78,7 +81,7 @@ def told_of_name(document: Document | Earlier, name: bytes, presets: str) -> Ite
         yield "nothing gives it a value"
 
 
-def known_values(document: Document | Earlier, name: bytes, presets: str) -> str:
+def known_values(document: Document | Earlier, name: bytes, presets: str, linter: str | None) -> str:
     """What is known of the values of a variable that one command sets, and no other and no preset, to be written behind its name."""
     mentions = document.mentions_of(name)
     setting = {one.command for one in mentions if one.use is Use.SET}
@@ -87,19 +90,21 @@ def known_values(document: Document | Earlier, name: bytes, presets: str) -> str
     command = next((one for one in all_commands(document.commands) if one.offset in setting), None)
     if command is None:
         return ""
-    known = range_set_by(command, Flow(document.commands, list(presets_in(define_option(document, presets)))))
-    if known.least is None or known.greatest is None or known.least > known.greatest:
+    text, define = document.symbols.text, define_option(document, presets)
+    known = range_set_by(command, Measured(text, document.commands, fresh_name(text, define), Linter(linter, define)))
+    if known.least is None or known.greatest is None or known.least > known.greatest or max(-known.least, known.greatest) >= UNTOLD:
         return ""
     return f": {known.least}" if known.only is not None else f": {known.least} to {known.greatest}"
 
 
-def range_set_by(command: Command, flow: Flow) -> Range:
+def range_set_by(command: Command, measured: Measured) -> Range:
     """The range of the one variable without indices that a command sets. (What SET reads may be what it sets before.)"""
     arguments = command.arguments
     if command.word == "INT" and isinstance(arguments[2], Token):
-        return Range(flow.range_at(command, arguments[0]).least, flow.range_at(command, arguments[1]).greatest)
+        low, high = measured.ranges([Operand(command, tree) for tree in arguments[:2]]).values()
+        return Range(low.least, high.greatest)
     if command.word == "SET" and len(arguments) == 2 and isinstance(arguments[0], Token):
-        return flow.range_at(command, arguments[1])
+        return measured.ranges([Operand(command, arguments[1])])[arguments[1].offset]
     return Range()
 
 

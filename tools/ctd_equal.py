@@ -5,11 +5,10 @@ from collections.abc import Sequence
 from itertools import product
 from typing import TYPE_CHECKING
 
-from ctd_flow import tokens_of
 from ctd_ladders import Sought
-from ctd_program import Node, Tree, commands_of
+from ctd_program import Node, commands_of
 from ctd_questions import EndedOtherwise, Question
-from ctd_ranges import all_commands
+from ctd_trees import all_commands, name_of, trees_in
 
 if TYPE_CHECKING:
     from ctd_values import Fault
@@ -31,14 +30,8 @@ def equal_elements(fault: Fault, names: Sequence[bytes]) -> str:
 
 def index_counts(text: bytes, name: bytes) -> list[int]:
     """How many indices an array has in a program, one or two."""
-    trees = [tree for command in all_commands(commands_of(text)) for tree in command.arguments]
-    counts = set()
-    while trees:
-        tree: Tree = trees.pop()
-        if isinstance(tree, Node):
-            if tree.symbol == "variable" and next(tokens_of(tree)).value == name:
-                counts.add(len(tree.parts[2:-1:2]))
-            trees += tree.parts
+    trees = (tree for command in all_commands(commands_of(text)) for argument in command.arguments for tree in trees_in(argument))
+    counts = {len(tree.parts[2:-1:2]) for tree in trees if isinstance(tree, Node) and tree.symbol == "variable" and name_of(tree) == name}
     return sorted(counts & {1, 2})
 
 

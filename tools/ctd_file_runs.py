@@ -23,6 +23,8 @@ class FileRun:
     """The runs of copies on one file, and what is found. First each stops at something. If that takes too many, the file is read here, and one run
     confirms what was found; only where it does not, others go on to stop."""
 
+    is_telling_turns = False
+
     def __init__(self, skeleton: Skeleton, asker: Asker, name: str, before: Findings, reading: Reading, is_whole: bool = True) -> None:
         self.skeleton, self.asker, self.name, self.reading, self.is_whole = skeleton, asker, name, reading, is_whole
         self.found = dict(before)
@@ -81,6 +83,8 @@ class FileRun:
     def question_for(self, thing: Thing) -> bytes | None:
         """What is asked of a thing; None where nothing is open."""
         found = self.found.get(thing)
+        if not thing.is_asked:
+            return None
         if not self.is_whole and not self.skeleton.is_told(thing, self.found):
             return None
         if thing.sign and found:

@@ -1,15 +1,20 @@
-"""What ctd-lint says of programs with --json, and the lines of text that say the same."""
+"""What ctd-lint says of programs with --json, and the lines of text that say the same; and how it is found."""
 from __future__ import annotations
 
 import json
-from collections.abc import Iterator
+import os
+import sys
+from collections.abc import Iterator, Sequence
 from dataclasses import dataclass
+from pathlib import Path
 from typing import Any
 
-from ctd_companion import Place, text_of
+from ctd_companion import Place, find_program, text_of
 
 LINTER = "ctd-lint"
 RANKS = ("warning", "note", "risk", "verdict", "error")
+# The rank of what happens at a command in no run.
+NEVER = "never"
 
 
 @dataclass(frozen=True)
@@ -47,13 +52,21 @@ def place_text(place: Place | None) -> str:
     return f":{place.line}:{place.column}" if place else ""
 
 
-def said_in(written: str) -> Iterator[Finding]:
+def find_linter(checker: str) -> str | None:
+    """The path of ctd-lint: beside the checker, or beside this program where none is given, or in its checkout, or on PATH. It may be run in another
+    folder."""
+    folders = [Path(checker).parent] if checker else [Path(sys.argv[0]).parent, Path(__file__).resolve().parent]
+    found = find_program(LINTER, *folders)
+    return found and os.path.abspath(found)
+
+
+def said_in(written: str, ranks: Sequence[str] = RANKS) -> Iterator[Finding]:
     """What ctd-lint says, but for objects of other ranks. A line that is cut off is passed over."""
     for line in written.split("\n")[:-1]:
         said = json.loads(line)
-        if said["rank"] in RANKS:
+        if said["rank"] in ranks:
             texts = {key: text_of(said[key].encode("latin-1")) for key in ("file", "rank", "text", "kind", "name", "reason") if key in said}
-            yield Finding(**texts, place=place_in(said), unclosed=place_in(said.get("unclosed", {})))
+            yield Finding(**{"text": "", **texts}, place=place_in(said), unclosed=place_in(said.get("unclosed", {})))
 
 
 def findings_in(written: str) -> list[Finding]:

@@ -54,6 +54,8 @@ class Watch:
 class Watching:
     """What a copy watches: all things of a program, or those of some guesses, which it confirms at its end."""
 
+    is_telling_turns = False
+
     def __init__(self, skeleton: Skeleton, guesses: Mapping[Thing, Guess] | None = None) -> None:
         self.counter, self.guesses = skeleton.fresh + b"n", guesses or {}
         names = ((thing, b"%bw%d" % (skeleton.fresh, number), b"%bl%d" % (skeleton.fresh, number)) for number, thing in enumerate(skeleton.things))
@@ -92,7 +94,7 @@ class Reading:
         copy = self.skeleton.copy(self.watching, self.watching.start)
         names = [name for one in self.watching.watches.values() for name in (one.best, one.lines)]
         try:
-            return reader_of(commands_of(bytes(copy.text)), self.skeleton.flow.presets, self.skips_blanks, names)
+            return reader_of(commands_of(bytes(copy.text)), self.skeleton.presets, self.skips_blanks, names)
         except CannotRead:
             return None
 

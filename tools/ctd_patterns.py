@@ -6,7 +6,8 @@ import warnings
 from collections.abc import Iterator, Sequence
 
 from ctd_program import TEXT, Command, Token, Tree
-from ctd_ranges import Range, all_commands
+from ctd_ranges import Range
+from ctd_trees import all_commands
 
 # What Python takes in a pattern and the checker does not.
 NOT_THERE = ((r"\(\?<?[=!]", "there is no look-ahead and no look-behind"), (r"\\[1-9]", "there are no back references"), (r"\(\?P=", "there are no back references"))

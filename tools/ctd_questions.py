@@ -75,6 +75,10 @@ class Copy:
         source = self.sources[index]
         return source + offset - self.starts[index] if isinstance(source, int) else source
 
+    def place_of(self, question: Question) -> Place:
+        """The place at which a question stands."""
+        return place_at(bytes(self.text), self.starts[self.sources.index(question)])
+
     def question_at(self, place: Place | None) -> Question | None:
         """The question that stands at a place, if one does."""
         source = self.source_at(place) if place else None

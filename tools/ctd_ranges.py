@@ -1,15 +1,21 @@
-"""Ranges of numbers and what operations make of them; and all commands of a program."""
+"""Ranges of numbers; and those of expressions of a program, which ctd-lint proves of copies that compare them."""
 from __future__ import annotations
 
-from collections.abc import Iterable, Iterator
+import re
+from collections.abc import Callable, Sequence
 from dataclasses import dataclass
-from itertools import product
+from typing import Dict, NamedTuple
 
+from ctd_asked import Linter, Told
 from ctd_program import Command, Token, Tree
+from ctd_questions import GREATEST, Copy, Question, numeral
+from ctd_trees import all_commands
 
-# No power with a larger exponent is a number of the language, but those of 0 and 1.
-MOST_EXPONENT = 127
-LIMIT = 2**127
+# How many ranges are looked for in one copy.
+TOGETHER = 10
+# The ends that the reason of an overflow names.
+LEAST_NAMED = re.compile(r" (?:is|be at least|be from) (-?[0-9]+)")
+GREATEST_NAMED = re.compile(r" (?:is|be at most|to) (-?[0-9]+)\Z")
 
 
 @dataclass(frozen=True)
@@ -24,99 +30,94 @@ class Range:
         """The value, where there is one."""
         return self.least if self.least == self.greatest else None
 
-    def joined(self, other: Range) -> Range:
-        """The range of what lies in one of two."""
-        least = None if self.least is None or other.least is None else min(self.least, other.least)
-        greatest = None if self.greatest is None or other.greatest is None else max(self.greatest, other.greatest)
-        return Range(least, greatest)
+
+class Operand(NamedTuple):
+    """An expression, with the value that it has where its command begins."""
+
+    command: Command
+    tree: Tree
 
 
-def all_commands(commands: Iterable[Command]) -> Iterator[Command]:
-    """All commands of a program, in the order of their text."""
-    for command in commands:
-        yield command
-        if command.separator:
-            yield command.separator
-            yield from all_commands([*command.separator.body, *(command.separator.otherwise or [])])
-        yield from all_commands(command.body)
-        yield from all_commands(command.otherwise or [])
+# Ranges by the offsets of their expressions.
+Ranges = Dict[int, Range]
 
 
-def name_of(tree: Tree) -> bytes:
-    """The name of a variable, with or without indices."""
-    token = tree if isinstance(tree, Token) else tree.parts[0]
-    assert isinstance(token, Token) and isinstance(token.value, bytes)
-    return token.value
+class Inquiry(NamedTuple):
+    """What is put into a copy before the command of an expression, and the range that follows from what ctd-lint tells of the copy."""
+
+    operand: Operand
+    parts: list[bytes | Question]
+    answer: Callable[[Told, Copy], Range]
 
 
-def operation_range(operator: str, left: Range, right: Range) -> Range:
-    """The range of a product, a quotient, a remainder or a power."""
-    if left.only is not None and right.only is not None:
-        value = value_of(operator, left.only, right.only)
-        return Range(value, value)
-    if operator == "*":
-        return product_range(left, right)
-    if right.least is None or right.least < (0 if operator == "^" else 1):
-        return Range()
-    return {"/": quotient_range, "%": remainder_range, "^": power_range}[operator](left, right)
+def naming(operand: Operand, name: bytes, value: bytes) -> Inquiry:
+    """Asks by overflows, of which the reason names a range. Nothing follows from it: it may be right."""
+    above, below = Question(b"SET(%b=%b+%d) " % (name, name, GREATEST)), Question(b"SET(%b=%b-%d-1) " % (name, name, GREATEST))
+    setting = b"SET(%b=%b) " % (name, value)
+
+    def answer(told: Told, copy: Copy) -> Range:
+        if (copy.place_of(above), "begins") in told.never:
+            return Range()
+        reason = next((told.overflows[place] for place in map(copy.place_of, (above, below)) if place in told.overflows), " is 0")
+        return Range(*(found and int(found[1]) for found in (LEAST_NAMED.search(reason), GREATEST_NAMED.search(reason))))
+
+    return Inquiry(operand, [b"IF(ISEOF) ", setting, above, setting, below, b"ASSERT(0!=0) END "], answer)
 
 
-def product_range(left: Range, right: Range) -> Range:
-    if left.least is None or left.greatest is None or right.least is None or right.greatest is None:
-        is_positive = left.least is not None and right.least is not None and left.least >= 0 and right.least >= 0
-        return Range(left.least * right.least, None) if is_positive else Range()  # type: ignore[operator]
-    ends = [one * other for one, other in product((left.least, left.greatest), (right.least, right.greatest))]
-    return Range(min(ends), max(ends))
+def comparing(operand: Operand, name: bytes, value: bytes, named: Range) -> Inquiry:
+    """Asks by comparisons whether the ends of a range are right."""
+    ends = ((b"<", named.least), (b">", named.greatest))
+    questions = [Question(b"" if end is None else b"IF(%b%b%b) END " % (name, sign, numeral(end))) for sign, end in ends]
+
+    def answer(told: Told, copy: Copy) -> Range:
+        return Range(*(end if told.is_never(copy.place_of(question), "is-true") else None for question, (_, end) in zip(questions, ends)))
+
+    return Inquiry(operand, [b"SET(%b=%b) " % (name, value), *questions, b"UNSET(%b) " % name], answer)
 
 
-def quotient_range(left: Range, right: Range) -> Range:
-    """The range of a quotient by a number above 0: it is nearest to 0 where that is largest."""
+@dataclass(frozen=True)
+class Measured:
+    """A program of which ranges are asked."""
 
-    def end(value: int | None, is_least: bool) -> int | None:
-        if value is None:
-            return None
-        is_inner = (value > 0) == is_least
-        divisor = right.greatest if is_inner else right.least
-        return 0 if divisor is None else value_of("/", value, divisor)
+    text: bytes
+    commands: Sequence[Command]
+    fresh: bytes
+    linter: Linter
 
-    return Range(end(left.least, True), end(left.greatest, False))
+    def ranges(self, operands: Sequence[Operand]) -> Ranges:
+        """The ranges of some expressions in all runs."""
+        found = {tree.offset: range_of_numeral(tree) for _, tree in operands}
+        name = self.fresh + b"h"
+        asked = [(one, name, b"(%b)" % self.text[one.tree.offset : one.tree.end]) for one in operands if found[one.tree.offset] == Range()]
+        named = self.answers([naming(*one) for one in asked])
+        return {**found, **self.answers([comparing(*one, named.get(one[0].tree.offset, Range())) for one in asked])}
+
+    def answers(self, asked: Sequence[Inquiry]) -> Ranges:
+        starts = range(0, len(asked), TOGETHER)[: self.linter.room(self.text)]
+        parts = [asked[start : start + TOGETHER] for start in starts]
+        copies = [self.copy(part) for part in parts]
+        answers = zip(parts, copies, self.linter.tell([bytes(copy.text) for copy in copies]))
+        return {one.operand.tree.offset: one.answer(told, copy) for part, copy, told in answers if told.is_known for one in part}
+
+    def copy(self, asked: Sequence[Inquiry]) -> Copy:
+        """The program with questions before commands. A separator is one command, so it gets an IF around it that is always true."""
+        put: dict[int, list[bytes | Question]] = {}
+        for one in asked:
+            put.setdefault(one.operand.command.offset, []).extend(one.parts)
+        for separator in (command.separator for command in all_commands(self.commands)):
+            if separator and separator.offset in put:
+                put[separator.offset][:0] = [b"IF(0==0) "]
+                put[separator.end] = [b" END"]
+        copy, at = Copy(), 0
+        for offset in sorted(put):
+            copy.add(self.text[at:offset], at)
+            at = offset
+            for part in put[offset]:
+                copy.ask(part) if isinstance(part, Question) else copy.add(part)
+        copy.add(self.text[at:], at)
+        return copy
 
 
-def remainder_range(left: Range, right: Range) -> Range:
-    """The range of a remainder by a number above 0, which has the sign of the dividend."""
-    assert right.least is not None
-    if left.least is not None and left.least >= 0 and left.greatest is not None and left.greatest < right.least:
-        return left
-    most = None if right.greatest is None else right.greatest - 1
-    least = 0 if left.least is not None and left.least >= 0 else None if most is None else -most
-    greatest = 0 if left.greatest is not None and left.greatest <= 0 else most
-    if left.greatest is not None and left.greatest > 0 and (greatest is None or left.greatest < greatest):
-        greatest = left.greatest
-    return Range(least, greatest)
-
-
-def power_range(left: Range, right: Range) -> Range:
-    """The range of a power of a number that is not below 0."""
-    if left.least is None or left.least < 0 or right.least is None:
-        return Range()
-    least = value_of("^", left.least, right.least) if left.least else 0
-    greatest = None
-    if left.greatest is not None and right.greatest is not None:
-        greatest = value_of("^", max(left.greatest, 1), right.greatest)
-    return Range(least, greatest)
-
-
-def value_of(operator: str, left: int, right: int) -> int | None:
-    """The result of an operator on two numbers, where it has one."""
-    if operator == "+":
-        return left + right
-    if operator == "-":
-        return left - right
-    if operator == "*":
-        return left * right
-    if operator == "^":
-        return int(left**right) if 0 <= right <= MOST_EXPONENT else None
-    if right == 0:
-        return None
-    quotient = abs(left) // abs(right) * (1 if (left < 0) == (right < 0) else -1)
-    return quotient if operator == "/" else left - right * quotient
+def range_of_numeral(tree: Tree) -> Range:
+    value = tree.value if isinstance(tree, Token) else None
+    return Range(value, value) if isinstance(value, int) else Range()

@@ -7,11 +7,10 @@ from collections import Counter
 from collections.abc import Callable, Sequence
 from typing import Dict, NamedTuple, Union
 
-from ctd_flow import LOOPS
 from ctd_patterns import text_of_pattern
 from ctd_presets import Preset
 from ctd_program import NAME, Command, Node, Token, Tree
-from ctd_ranges import all_commands, name_of
+from ctd_trees import LOOPS, all_commands, name_of
 
 Value = Union[int, bytes]
 # How deep a line of the Python function is indented at most: Python allows little more.
@@ -167,7 +166,7 @@ class Translation:
             self.add_command(command)
 
     def add_command(self, command: Command) -> None:
-        """Adds what a command does; an ASSERT and an EOF do nothing to data that fit."""
+        """Adds what a command does; an ASSERT and an EOF do nothing to data that fit. Raises CannotRead for a command that is not known here."""
         word, arguments = command.word, command.arguments
         if word in LOOPS:
             self.add_loop(command)
@@ -196,6 +195,8 @@ class Translation:
                 name = word_of(target)
                 if name not in self.presets:
                     self.add(f"a_{name}.clear()" if name in self.arrays else f"n_{name} = None")
+        elif word not in ("ASSERT", "EOF"):
+            raise CannotRead
 
     def add_taker(self, found: str, value: str, target: Sequence[Tree]) -> None:
         self.add(f"found = {found}")

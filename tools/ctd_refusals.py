@@ -8,10 +8,11 @@ from ctd_companion import printable, text_of
 from ctd_patterns import pattern_fault
 from ctd_program import BLOCKS, END, NAME, NUMERAL, TEXT, Grammar, Refused, State, Token, commands_of, cut, parse, tables
 from ctd_questions import place_at
+from ctd_trees import DEEDS
 
 # Groups of tokens, and what a group is called where all of it could stand somewhere.
 GROUPS = [
-    ("a command", {"SPACE", "NEWLINE", "EOF", "INT", "STRING", "REGEX", "ASSERT", "SET", "UNSET", "REP", "REPI", "WHILE", "WHILEI", "IF"}),
+    ("a command", {*DEEDS}),
     ("a test", {"!", "MATCH", "ISEOF", "UNIQUE", "INARRAY", NAME, NUMERAL, TEXT, "(", "-", "STRLEN"}),
     ("an expression", {NAME, NUMERAL, TEXT, "(", "-", "STRLEN"}),
     ("a comparison", {"<", ">", "<=", ">=", "==", "!="}),

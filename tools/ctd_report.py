@@ -11,6 +11,7 @@ from pathlib import Path
 from typing import Optional
 from xml.etree import ElementTree
 
+from ctd_asked import Linter
 from ctd_companion import FITS, NO_FILE, NO_VERDICT, REJECTED, Checker, is_special, printable, text_of
 from ctd_coverage import Findings, Found, Skeleton, Spot, merged
 from ctd_problem import Package
@@ -18,7 +19,7 @@ from ctd_program import Refused
 from ctd_questions import CannotAsk
 from ctd_schema import BadValue, Count, Line, Status, read
 from ctd_shares import MOST_PARTS, Share, size_of
-from ctd_untried import Coverage, notes, rows, skeleton_of, summary
+from ctd_untried import Coverage, notes, rows, summary, watched_program
 
 
 # The most bytes of a report, characters of a program in it, and levels of its brackets; the checker takes some two hundred.
@@ -107,8 +108,7 @@ def tried(program: str, source: bytes, options: Sequence[str], coverage: Coverag
     found = [
         (number, name, find.spot.file, find.spot.line, find.spot.column, find.value)
         for number, watched in enumerate(coverage.skeleton.watched)
-        for name, thing in watched.things.items()
-        if (find := coverage.found.get(thing))
+        for name, find in watched.found_by_name(coverage.found).items()
     ]
     return Tried(program, options, list(notes(program, said)), summary(coverage, said), text_of(source), coverage.files, found)
 
@@ -116,7 +116,7 @@ def tried(program: str, source: bytes, options: Sequence[str], coverage: Coverag
 def findings_of(one: Tried, skeleton: Skeleton) -> Findings:
     """What a part found of the things that are watched."""
     return {
-        skeleton.watched[number].things[name]: Found(Spot(file, line, column), value) for number, name, file, line, column, value in one.found
+        skeleton.watched[number].thing(name): Found(Spot(file, line, column), value) for number, name, file, line, column, value in one.found
     }
 
 
@@ -132,11 +132,12 @@ def tried_together(parts: Sequence[Tried]) -> Tried:
     with tempfile.TemporaryDirectory() as folder:
         program = Path(folder) / "program.ctd"
         program.write_bytes(program_bytes(first))
-        skeleton = skeleton_of(Checker("", str(program), first.options))
+        checker = Checker("", str(program), first.options)
+        possible = watched_program(checker, Linter.beside(checker))
     found: Findings = {}
     for one in parts:
-        found = merged(found, findings_of(one, skeleton))
-    coverage = Coverage(skeleton, found, files=sum(one.files for one in parts))
+        found = merged(found, findings_of(one, possible.skeleton))
+    coverage = Coverage(possible, found, files=sum(one.files for one in parts))
     return tried(first.program, program_bytes(first), first.options, coverage)
 
 

@@ -82,7 +82,7 @@ class Server:
             "textDocument/didOpen": self.open,
             "textDocument/didChange": self.change,
             "textDocument/didClose": self.close,
-            "textDocument/hover": lambda given: partial(hover, *self.place(given), self.presets),
+            "textDocument/hover": lambda given: partial(hover, *self.place(given), self.presets, self.tools.linter),
             "textDocument/definition": lambda given: partial(definitions, *self.place(given)),
             "textDocument/references": lambda given: partial(references, *self.place(given), given["context"]["includeDeclaration"]),
             "textDocument/completion": lambda given: partial(completions, *self.place(given), self.with_snippets),

@@ -1,6 +1,7 @@
 """The bounds of the programs of a problem package beside the limits of its statement: what one has and the other has not."""
 from __future__ import annotations
 
+import operator
 import re
 from collections.abc import Iterable, Iterator, Mapping, Sequence
 from contextlib import suppress
@@ -11,9 +12,10 @@ from ctd_companion import printable
 from ctd_limits import Mention, Statement, statement_in
 from ctd_presets import presets_in
 from ctd_problem import Package, program_text
-from ctd_program import NAME, NUMERAL, TEXT, Command, Node, Refused, Token, Tree, commands_of
+from ctd_program import NUMERAL, TEXT, Command, Node, Refused, Token, Tree, commands_of
 from ctd_questions import place_at
-from ctd_ranges import all_commands, name_of, value_of
+from ctd_reader import quotient, remainder
+from ctd_trees import all_commands, is_variable, name_of, trees_in
 
 STATEMENT_FOLDERS = ("problem_statement", "statement")
 STATEMENT_SUFFIXES = (".tex", ".md")
@@ -23,6 +25,9 @@ COMMON = (-1, 0, 1)
 MOST_NOTES, MOST_NEAR = 1000, 2000
 REPETITION = re.compile(rb"\{([0-9]{1,7})(?:,([0-9]{1,7})?)?\}")
 COMPARISONS = ("<", ">", "<=", ">=")
+OPERATIONS = {"+": operator.add, "-": operator.sub, "*": operator.mul, "/": quotient, "%": remainder, "^": operator.pow}
+# No power with a larger exponent is a number of the language, but those of -1, 0 and 1.
+MOST_EXPONENT = 127
 
 
 @dataclass(frozen=True)
@@ -37,16 +42,6 @@ def statements_of(package: Package) -> list[Statement]:
     """The statements of a package, one for each language."""
     names = [path for folder in STATEMENT_FOLDERS for path in sorted((package.folder / folder).glob("*")) if path.suffix in STATEMENT_SUFFIXES]
     return [statement_in(package.folder, path.relative_to(package.folder)) for path in names if not path.is_dir()]
-
-
-def trees_in(tree: Tree) -> Iterator[Tree]:
-    """A tree and all that are in it, those of a part behind it."""
-    waiting = [tree]
-    while waiting:
-        one = waiting.pop()
-        yield one
-        if isinstance(one, Node):
-            waiting += reversed(one.parts)
 
 
 def values_of(trees: Iterable[Tree]) -> dict[int, int]:
@@ -70,8 +65,14 @@ def value_from_parts(tree: Tree, values: Mapping[int, int]) -> int | None:
         return None if inner is None or tree.parts[0].symbol != "-" else -inner
     if tree.symbol not in ("expr", "product", "power"):
         return None
-    left, right = values.get(id(tree.parts[0])), values.get(id(tree.parts[2]))
-    return None if left is None or right is None else value_of(tree.parts[1].symbol, left, right)
+    left, sign, right = values.get(id(tree.parts[0])), tree.parts[1].symbol, values.get(id(tree.parts[2]))
+    return None if left is None or right is None else result_of(left, sign, right)
+
+
+def result_of(left: int, sign: str, right: int) -> int | None:
+    """The result of an operation on two numbers; None where it has none, or is too large to be a limit."""
+    is_there = right != 0 if sign in ("/", "%") else 0 <= right <= MOST_EXPONENT if sign == "^" else True
+    return int(OPERATIONS[sign](left, right)) if is_there else None
 
 
 def bounding_trees(command: Command) -> Iterator[Tree]:
@@ -91,7 +92,7 @@ def numbers_in(text: bytes, name: str) -> Numbers:
     trees = [tree for command in commands for argument in command.arguments for tree in trees_in(argument)]
     values = values_of(trees)
     bounding = [tree for command in commands for tree in bounding_trees(command)]
-    names = {name_of(part) for tree in bounding for part in trees_in(tree) if part.symbol in (NAME, "variable")}
+    names = {name_of(part) for tree in bounding for part in trees_in(tree) if is_variable(part)}
     settings = [pair for command in commands if command.word == "SET" for pair in zip(command.arguments[::2], command.arguments[1::2])]
     bounding += [value for target, value in settings if name_of(target) in names]
     found = [(tree.offset, values[id(tree)]) for tree in bounding if id(tree) in values]

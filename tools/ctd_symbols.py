@@ -13,13 +13,12 @@ from enum import Enum
 from typing import NamedTuple, Optional, TypeVar
 
 from ctd_program import BLOCKS, PIECE, Refused, cut, expected, parse, states
+from ctd_trees import DEEDS
 
 COMMENT = re.compile(rb"#[^\n]*")
 # A blank for each byte but a line feed.
 BLANKS = bytes(byte if byte == 0x0A else 0x20 for byte in range(256))
 PRESET = re.compile(rb"#[ \t]*preset:[ \t]*([^\r\n]*[^\r\n \t])")
-# Where a name stands that a command gives a value: the word of the command, and how many commas stand before it.
-SETTING = {("INT", 2), ("REGEX", 1), ("REPI", 0), ("WHILEI", 0)}
 
 
 class Use(Enum):
@@ -154,7 +153,7 @@ class Symbols:
         use = Use.READ
         if inside.word == "UNSET":
             use = Use.UNSET
-        elif last.text in (b"(", b",") and (inside.word == "SET" or (inside.word, inside.commas) in SETTING):
+        elif last.text in (b"(", b",") and inside.word in DEEDS and DEEDS[inside.word].is_changing(inside.commas * (2 if inside.word == "SET" else 1)):
             use = Use.SET
         self.mentions.append(Mention(token.text, use, token.offset, token.end, inside.command))
 

@@ -5,14 +5,13 @@ from collections.abc import Sequence
 from dataclasses import dataclass, field
 from typing import FrozenSet
 
-from ctd_flow import LOOPS
 from ctd_program import Command
-from ctd_ranges import all_commands
+from ctd_trees import DEEDS, LOOPS, Taken, all_commands
 
 BLANK, OTHER = "a blank", "anything else"
 
 
-Taken = FrozenSet[str]
+Before = FrozenSet[str]
 
 
 def parted_integers(commands: Sequence[Command]) -> set[Command]:
@@ -26,25 +25,25 @@ def parted_integers(commands: Sequence[Command]) -> set[Command]:
 class Takers:
     """What may have been taken last behind a command, by what it may have been before it; and the INTs that are not parted."""
 
-    known: dict[tuple[Command, Taken], Taken] = field(default_factory=dict)
+    known: dict[tuple[Command, Before], Before] = field(default_factory=dict)
     unparted: set[Command] = field(default_factory=set)
 
-    def behind_all(self, commands: Sequence[Command], before: Taken) -> Taken:
+    def behind_all(self, commands: Sequence[Command], before: Before) -> Before:
         for command in commands:
             if (command, before) not in self.known:
                 self.known[command, before] = self.behind(command, before)
             before = self.known[command, before]
         return before
 
-    def behind(self, command: Command, before: Taken) -> Taken:
-        if command.word in ("SPACE", "NEWLINE"):
+    def behind(self, command: Command, before: Before) -> Before:
+        takes = DEEDS[command.word].takes
+        if takes is Taken.BLANK:
             return frozenset({BLANK})
-        if command.word == "INT":
+        if takes is Taken.INTEGER:
             if OTHER in before:
                 self.unparted.add(command)
             return frozenset({OTHER})
-        if command.word in ("STRING", "REGEX"):
-            # (a string may be empty)
+        if takes is Taken.STRING:
             return before | {OTHER}
         if command.word == "IF":
             return self.behind_all(command.body, before) | self.behind_all(command.otherwise or [], before)

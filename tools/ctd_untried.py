@@ -10,14 +10,16 @@ from dataclasses import dataclass, field
 from pathlib import Path
 
 from ctd_companion import FITS, STANDARD_INPUT, Checker, DataFile, Progress, open_data, results_in_order
-from ctd_coverage import DECIDED, TIGHT, Findings, Skeleton, Watched, merged
+from ctd_asked import Linter, Told
+from ctd_coverage import DECIDED, ENDS, TIGHT, WORD, Findings, Skeleton, Watched, bounding_operands, merged
 from ctd_file_runs import FileRun
-from ctd_flow import LOOPS
 from ctd_guesses import Reading
+from ctd_possible import Possible
 from ctd_presets import presets_in
 from ctd_program import Command, commands_of
 from ctd_questions import Asker, CannotAsk, fresh_name, place_at
-from ctd_ranges import Range
+from ctd_ranges import Measured, Range
+from ctd_trees import LOOPS
 
 # How many files begin with what was found in those before them: not the number of jobs, so that no result depends on that.
 TOGETHER = 8
@@ -45,11 +47,15 @@ class HeldFile:
 class Coverage:
     """What files try of a program; and the files that do not fit, each with its line."""
 
-    skeleton: Skeleton
+    possible: Possible
     found: Findings = field(default_factory=dict)
     misfits: list[str] = field(default_factory=list)
     files: int = 0
     runs: int = 0
+
+    @property
+    def skeleton(self) -> Skeleton:
+        return self.possible.skeleton
 
 
 @dataclass
@@ -74,14 +80,23 @@ class Workshop:
         return self.folder / f"{threading.get_ident()}.ctd"
 
 
-def skeleton_of(checker: Checker) -> Skeleton:
-    """The program of a checker, which it has accepted, with places for questions."""
+def watched_program(checker: Checker, linter: Linter) -> Possible:
+    """The program of a checker, which it has accepted, with places for questions, and what ctd-lint knows of it."""
     # Programs nest deeply, and each level takes some calls.
     sys.setrecursionlimit(max(sys.getrecursionlimit(), 10_000))
     if not Path(checker.program).is_file():
         raise CannotAsk("the program is no file, and cannot be read again")
     text = Path(checker.program).read_bytes()
-    return Skeleton(text, commands_of(text), fresh_name(text, checker.options), list(presets_in(checker.options)))
+    commands, fresh = commands_of(text), fresh_name(text, checker.options)
+    told = linter.tell([text])[0]
+    # (of a program that takes long to analyse each copy does too)
+    known = Linter() if told.is_large else linter
+    ranges = Measured(text, commands, fresh, known).ranges(bounding_operands(commands))
+    return Possible(Skeleton(text, commands, fresh, list(presets_in(checker.options)), ranges), known, told)
+
+
+# Where no file fits, and so the program may be refused.
+NOTHING_WATCHED = Possible(Skeleton(b"", [], b"", [], {}), Linter(), Told())
 
 
 def fitting(checker: Checker, files: Sequence[DataFile], shop: Workshop, jobs: int) -> Iterator[HeldFile | str]:
@@ -113,8 +128,9 @@ def cover(checker: Checker, given: Sequence[DataFile], jobs: int, is_whole: bool
         checked = list(fitting(checker, given, shop, jobs))
         files = sorted((file for file in checked if isinstance(file, HeldFile)), key=lambda file: file.size)
         # (a program is accepted where a file fits it)
-        skeleton = skeleton_of(checker) if files else Skeleton(b"", [], b"", [])
-        coverage = Coverage(skeleton, misfits=[line for line in checked if isinstance(line, str)], files=len(files), runs=len(checked))
+        possible = watched_program(checker, Linter.beside(checker, jobs)) if files else NOTHING_WATCHED
+        skeleton = possible.skeleton
+        coverage = Coverage(possible, misfits=[line for line in checked if isinstance(line, str)], files=len(files), runs=len(checked))
 
         def one(task: tuple[HeldFile, Findings]) -> tuple[Findings, int]:
             file, before = task
@@ -165,18 +181,20 @@ def rows(coverage: Coverage) -> list[Row]:
     skeleton, found = coverage.skeleton, coverage.found
     if not coverage.files:
         return []
-    said = {command.offset: row_of(skeleton, command, what) for command, what in never_run(skeleton, found)}
-    for watched in skeleton.watched:
-        if watched.block.is_run(found) and watched.things:
-            said[watched.command.offset] = row_of(skeleton, watched.command, SAYERS[watched.command.word](skeleton, watched, found))
+    run = [watched for watched in skeleton.watched if watched.block.is_run(found) and watched.things]
+    coverage.possible.ask_all(thing for watched in run for thing in watched.open_things(found))
+    said = {command.offset: row_of(skeleton, command, what) for command, what in never_run(coverage)}
+    for watched in run:
+        said[watched.command.offset] = row_of(skeleton, watched.command, SAYERS[watched.command.word](coverage, watched))
     return [said[offset] for offset in sorted(said)]
 
 
-def never_run(skeleton: Skeleton, found: Findings) -> Iterator[tuple[Command, Seen]]:
+def never_run(coverage: Coverage) -> Iterator[tuple[Command, Seen]]:
     """The first command of each list of commands that no file runs, where what stands around the list is run."""
-    for block in skeleton.blocks:
-        can_be_run = any(skeleton.flow.can_be(way) for way in block.ways)
-        if block.commands and not block.is_entered(found) and (block.parent is None or block.parent.is_run(found)) and can_be_run:
+    found = coverage.found
+    for block in coverage.skeleton.blocks:
+        is_missed = block.commands and not block.is_entered(found) and (block.parent is None or block.parent.is_run(found))
+        if is_missed and any(map(coverage.possible.can_be, block.ways)):
             count = len(block.commands)
             yield block.commands[0], Seen("never run", "no file runs this command" if count == 1 else f"no file runs these {count} commands")
 
@@ -198,25 +216,25 @@ def seen_range(watched: Watched, found: Findings) -> str:
     return "" if least is None or greatest is None else f"{least.value} ({least.spot}) .. {greatest.value} ({greatest.spot})"
 
 
-def missed_of(skeleton: Skeleton, watched: Watched, found: Findings, names: Iterable[str]) -> list[str]:
+def missed_of(coverage: Coverage, watched: Watched, names: Iterable[str]) -> list[str]:
     """Those of the things with these names that did not happen, and can."""
-    missed = [name for name in names if watched.things[name] not in found]
-    return [name for name in missed if skeleton.flow.can_be(watched.happenings[name])]
+    missed = [name for name in names if watched.things[name] not in coverage.found]
+    return [name for name in missed if coverage.possible.can_be(watched.things[name])]
 
 
-def missed_bounds(skeleton: Skeleton, watched: Watched, found: Findings) -> list[str]:
+def missed_bounds(coverage: Coverage, watched: Watched) -> list[str]:
     """Which of the ends of an INT or of the lengths of a REGEX were not taken, and can be."""
-    ends = {"low": "least", "high": "greatest"}
-    return [end for bound, end in ends.items() if not watched.is_taken(bound, found) and skeleton.flow.can_be(watched.happenings[bound])]
+    missed = [bound for bound in ENDS if not watched.is_taken(bound, coverage.found)]
+    return [ENDS[bound] for bound in missed if coverage.possible.can_be(watched.thing(bound))]
 
 
 def missing_bounds(missed: Sequence[str]) -> str:
     return "neither bound is ever taken" if len(missed) == 2 else f"the {missed[0]} is never taken" if missed else ""
 
 
-def of_integer(skeleton: Skeleton, watched: Watched, found: Findings) -> Seen:
-    missed = missed_bounds(skeleton, watched, found)
-    low, high = bound_text(skeleton, watched, 0, watched.low), bound_text(skeleton, watched, 1, watched.high)
+def of_integer(coverage: Coverage, watched: Watched) -> Seen:
+    missed, found = missed_bounds(coverage, watched), coverage.found
+    low, high = bound_text(coverage.skeleton, watched, 0, watched.low), bound_text(coverage.skeleton, watched, 1, watched.high)
     seen = f"{seen_range(watched, found)} of {low}..{high}"
     if not missed:
         return Seen(seen)
@@ -225,54 +243,54 @@ def of_integer(skeleton: Skeleton, watched: Watched, found: Findings) -> Seen:
     return Seen(seen, missing_bounds(missed), before, f" ({', '.join(str(ends[name].spot) for name in missed)})")
 
 
-def of_regex(skeleton: Skeleton, watched: Watched, found: Findings) -> Seen:
-    words = [name for name in watched.things if name not in ("least", "greatest")]
+def of_regex(coverage: Coverage, watched: Watched) -> Seen:
+    words, found = [name for name in watched.things if name.startswith(WORD)], coverage.found
     seen = f"{seen_range(watched, found)} bytes"
     if words:
-        missed = missed_of(skeleton, watched, found, words)
-        return Seen(seen, f"never took {quoted(missed)}" if missed else "")
+        missed = missed_of(coverage, watched, words)
+        return Seen(seen, f"never took {quoted(name.removeprefix(WORD) for name in missed)}" if missed else "")
     low, high = watched.low.only, watched.high.only
     if low is None or high is None:
         return Seen(seen)
     least, greatest = (found[watched.things[name]].value for name in ("least", "greatest"))
-    return Seen(f"{seen} of {low}..{high}", missing_bounds(missed_bounds(skeleton, watched, found)), f"took {least}..{greatest} of {low}..{high} bytes: ")
+    return Seen(f"{seen} of {low}..{high}", missing_bounds(missed_bounds(coverage, watched)), f"took {least}..{greatest} of {low}..{high} bytes: ")
 
 
 def quoted(words: Iterable[str]) -> str:
     return ", ".join(f'"{shown(word.encode())}"' for word in words)
 
 
-def of_choice(skeleton: Skeleton, watched: Watched, found: Findings) -> Seen:
-    seen = [name for name in ("true", "false") if watched.things[name] in found]
-    missed = missed_of(skeleton, watched, found, ("true", "false"))
+def of_choice(coverage: Coverage, watched: Watched) -> Seen:
+    seen = [name for name in ("true", "false") if watched.things[name] in coverage.found]
+    missed = missed_of(coverage, watched, ("true", "false"))
     # (a preset may well leave a choice no choice)
-    dead = [] if skeleton.flow.presets else [name for name in ("true", "false") if name not in (*seen, *missed)]
-    untried = [*(f"the test is never {name}" for name in missed), *undecided(skeleton, watched, found)]
+    dead = [] if coverage.skeleton.presets else [name for name in ("true", "false") if name not in (*seen, *missed)]
+    untried = [*(f"the test is never {name}" for name in missed), *undecided(coverage, watched)]
     return Seen(", ".join(seen), ", ".join(untried), dead=f"no data make the test {dead[0]}" if dead else "")
 
 
-def undecided(skeleton: Skeleton, watched: Watched, found: Findings) -> list[str]:
+def undecided(coverage: Coverage, watched: Watched) -> list[str]:
     """What is said of the sides of a test that never decide it."""
-    missed = missed_of(skeleton, watched, found, [name for name in watched.things if name.startswith(DECIDED)])
+    missed = missed_of(coverage, watched, [name for name in watched.things if name.startswith(DECIDED)])
     return [f"never {shown(name.encode())}" for name in missed]
 
 
 TURNS = {"none": ("no turn", "never without a turn"), "one": ("one turn", "never with one turn alone"), "more": ("more turns", "never with more than one turn")}
 
 
-def of_loop(skeleton: Skeleton, watched: Watched, found: Findings) -> Seen:
-    seen = [told for name, (told, _) in TURNS.items() if watched.things[name] in found]
-    missed = [*(TURNS[name][1] for name in missed_of(skeleton, watched, found, TURNS)), *undecided(skeleton, watched, found)]
-    most = found.get(watched.things["most"])
+def of_loop(coverage: Coverage, watched: Watched) -> Seen:
+    seen = [told for name, (told, _) in TURNS.items() if watched.things[name] in coverage.found]
+    missed = [*(TURNS[name][1] for name in missed_of(coverage, watched, TURNS)), *undecided(coverage, watched)]
+    most = coverage.found.get(watched.things["most"])
     return Seen(f"{', '.join(seen) or 'turns'}{f'; at most {most.value} ({most.spot})' if most else ''}", ", ".join(missed))
 
 
-def of_assertion(skeleton: Skeleton, watched: Watched, found: Findings) -> Seen:
-    tight = {name: shown(name.removeprefix(TIGHT).encode()) for name in watched.things if name.startswith(TIGHT)}
+def of_assertion(coverage: Coverage, watched: Watched) -> Seen:
+    tight, found = {name: shown(name.removeprefix(TIGHT).encode()) for name in watched.things if name.startswith(TIGHT)}, coverage.found
     seen = [f"{told} ({found[watched.things[name]].spot})" for name, told in tight.items() if watched.things[name] in found]
-    sides = undecided(skeleton, watched, found)
+    sides = undecided(coverage, watched)
     # (of a side that never decides that is enough)
-    missed = [tight[name] for name in missed_of(skeleton, watched, found, tight) if f"never {DECIDED}{tight[name]}" not in sides]
+    missed = [tight[name] for name in missed_of(coverage, watched, tight) if f"never {DECIDED}{tight[name]}" not in sides]
     never = [f"never tight: {', '.join(missed)}"] if missed else []
     return Seen(f"tight: {', '.join(seen)}" if seen else "", ", ".join([*never, *sides]))
 

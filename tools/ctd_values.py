@@ -16,10 +16,9 @@ from ctd_ladders import STRING_ROOM, Ladder, Sought, behind
 from ctd_likely import Likely
 from ctd_program import NAME, NUMERAL, Command, Node, Refused, Token, Tree, commands_of
 from ctd_questions import Asker, CannotAsk, Copy, EndedOtherwise, Question, TooManyRuns, fresh_name, offset_at
-from ctd_ranges import all_commands, name_of
 from ctd_refusals import words_of_refusal
+from ctd_trees import DEEDS, SIGNS, all_commands, in_parentheses, is_variable, name_of
 from ctd_turns import find_turn
-from ctd_state import SIGNS, in_parentheses, is_variable
 
 # How many runs asking may take.
 MOST_RUNS = 60
@@ -178,12 +177,11 @@ class Fault:
 
     def read_variables(self, trees: Sequence[Tree]) -> list[bytes]:
         """The variables that the command reads, each once; of a variable that it sets, those in its indices."""
-        command = self.command
-        set_here = {"INT": (2,), "REGEX": (1,), "REPI": (0,), "SET": range(0, len(trees), 2), "UNSET": range(len(trees))}.get(command.word, ())
+        is_changing = DEEDS[self.command.word].is_changing
         found: dict[bytes, None] = {}
         for index, tree in enumerate(trees):
             for variable in variables_in(tree):
-                if not (index in set_here and variable is tree):
+                if not (is_changing(index) and variable is tree):
                     found[self.source(variable)] = None
         return list(found)
 

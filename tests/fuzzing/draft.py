@@ -137,13 +137,25 @@ class Draft(Data):
 
 def fitting_data(random: Random, program: bytes, settings: Settings) -> tuple[bytes, int]:
     """Data that mostly fit a program, and the number of steps that writing them took; none if the program is refused."""
+    draft, run, _ = drafted(random, program, settings)
+    return bytes(draft.written), MOST_STEPS - run.steps_left
+
+
+def whole_data(random: Random, program: bytes, settings: Settings) -> bytes | None:
+    """Data that fit a program; None where these turn out to be none."""
+    draft, _, is_whole = drafted(random, program, settings)
+    return bytes(draft.written) if is_whole else None
+
+
+def drafted(random: Random, program: bytes, settings: Settings) -> tuple[Draft, Run, bool]:
+    """What a run of a program writes, and whether it comes to the end."""
     draft = Draft(random, settings.whitespace_ok)
     run = Run(Store(settings.presets), draft, MOST_STEPS)
     try:
         run.whole(commands_of(File(program)))
     except (Fault, LeftOut, Refused):
-        pass
-    return bytes(draft.written), MOST_STEPS - run.steps_left
+        return draft, run, False
+    return draft, run, True
 
 
 def changed_data(random: Random, data: bytes) -> bytes:
