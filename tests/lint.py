@@ -28,7 +28,7 @@ TOP = Path(__file__).resolve().parent.parent
 LINTER = TOP / "crates/ctd_lint/out/ctd_lint"
 OUT_OF_TIME = 60
 # What a program of a megabyte may take, in processor seconds and in kilobytes, and how often it is tried: the least time counts.
-TIME_LIMIT = 2.0
+TIME_LIMIT = 4.0
 MEMORY_LIMIT = 200_000
 TRIES = 5
 MEGABYTE = 1_048_576
